@@ -1,0 +1,3 @@
+pub mod ArrivalKinds
+pub mod OrderKinds
+pub mod SectionKinds

@@ -1,0 +1,9 @@
+pub mod Faults
+pub mod Arrivals
+pub mod Order
+pub mod Sections
+pub mod Rows
+pub mod Sums
+pub mod Analysis
+pub mod Tables
+pub mod Lighter

@@ -1,0 +1,31 @@
+-- Sums and maxima over 0 .. n − 1, and the least length that meets a demand.
+-- Cited by the analysis.
+use mathlib.Core.Bool.{Bool, true, false, cond}
+use Prim.Native.Nat.{ℕ, zero, suc, _+_, max}
+use lib.Dec.{leb}
+use Rattle.std.specs.declared.option.Option.{Option}
+use Rattle.std.specs.declared.option.Option.the-variants.{Some, None}
+
+-- the number if the test holds, else 0
+abbrev pub when : Bool → ℕ → ℕ
+when true n = n
+when false n = 0
+
+-- f 0 + .. + f (n − 1)
+unfoldable pub total : ℕ → (ℕ → ℕ) → ℕ
+total zero f = 0
+total (suc n) f = total n f + f n
+
+-- the greatest of f 0, .., f (n − 1), or 0
+unfoldable pub greatest : ℕ → (ℕ → ℕ) → ℕ
+greatest zero f = 0
+greatest (suc n) f = max (greatest n f) (f n)
+
+-- the first of d, d + 1, .., d + n − 1 at which the demand is at most the length itself
+unfoldable pub first-met : (ℕ → ℕ) → ℕ → ℕ → Option ℕ
+first-met demand zero d = None
+first-met demand (suc n) d = let later = first-met demand n (suc d) in cond (leb (demand d) d) (Some d) later
+
+-- The least length from 1 to the limit at which the demand is at most the length, or none.
+abbrev pub least : (ℕ → ℕ) → ℕ → Option ℕ
+least demand limit = first-met demand limit 1

@@ -1,0 +1,82 @@
+-- What a draft means, the verdict on it, and what a judged table holds.
+-- Cited by the contract of judging.
+use mathlib.Core.Path.{_≡_}
+use mathlib.Core.Bool.{Bool, _&&_, cond}
+use mathlib.Core.List.{List}
+use Prim.Native.Nat.{ℕ, zero, suc}
+use lib.Dec.{leb, ltb, eqb}
+use lib.ListN.{length, getD}
+use Rattle.std.specs.declared.option.Option.{Option}
+use Rattle.std.specs.declared.option.Option.the-variants.{Some, None}
+use Rattle.model.specs.Analysis.{Parts, window, bound}
+use Rattle.model.specs.Arrivals.{LawfulArrivals}
+use Rattle.model.specs.Faults.{fault, no-task, _or-else_}
+use Rattle.model.specs.Order.{LawfulOrder}
+use Rattle.model.specs.Rows.{between, most-tasks, from-row, rows-fault, outside}
+use Rattle.model.specs.Sections.{LawfulSections}
+use Rattle.model.specs.Sums.{when}
+use Rattle.model.specs.declared.fault.Fault.{Fault}
+use Rattle.model.specs.declared.fault.Part.the-variants.{Table as table}
+use Rattle.model.specs.declared.fault.Refusal.the-variants.{Size, Range, Overload, Late}
+
+-- Deadlines and three parts.
+pub record Table : Type 0 where
+  pub deadlines : List ℕ
+  pub parts : Parts
+
+pub record Lawful (m : Parts) : Type 0 where
+  pub arrivals : LawfulArrivals (m .arrivals)
+  pub order : LawfulOrder (m .order)
+  pub sections : LawfulSections (m .sections)
+
+-- the longest deadline
+abbrev pub most-deadline : ℕ
+most-deadline = 100000
+
+-- the first fault of tasks 0 .. n − 1
+unfoldable pub first-fault : ℕ → (ℕ → Option Fault) → Option Fault
+first-fault zero at = None
+first-fault (suc n) at = first-fault n at or-else at n
+
+module _ (t : Table) where
+  -- one to sixteen tasks, the same in every part
+  abbrev pub sized : Bool
+  sized =
+      let n = length (t .deadlines) in
+      let m = t .parts in
+      between 1 most-tasks n && (eqb (m .arrivals .tasks) n && (eqb (m .order .tasks) n && eqb (m .sections .tasks) n))
+
+  abbrev pub size-fault : Option Fault
+  size-fault = cond sized None (Some (fault Size table no-task))
+
+  abbrev pub deadlines-fault : Option Fault
+  deadlines-fault = rows-fault (outside 1 most-deadline) table 0 (t .deadlines)
+
+  -- no window, or a bound above the deadline
+  abbrev pub task-fault : ℕ → Option Fault
+  task-fault k =
+      from-row (window (t .parts) k) (Some (fault Overload table k))
+      (λ _. cond (leb (bound (t .parts) k) (getD (t .deadlines) k 0)) None (Some (fault Late table k)))
+
+  -- The verdict: the first fault, of the size, then of the deadlines, then of the tasks one by one.
+  unfoldable pub verdict : Option Fault
+  verdict = size-fault or-else (deadlines-fault or-else first-fault (length (t .deadlines)) task-fault)
+
+  abbrev pub Accepted : Type 0
+  Accepted = verdict ≡ None
+
+  -- a number of task k on the sheet: 0 for a task that the table does not have, and throughout a refused table
+  abbrev pub on-sheet : (ℕ → ℕ) → ℕ → ℕ
+  on-sheet f k = from-row verdict (when (ltb k (length (t .deadlines))) (f k)) (λ _. 0)
+
+  abbrev pub sheet-window : ℕ → ℕ
+  sheet-window = on-sheet (λ k. from-row (window (t .parts) k) 0 (λ w. w))
+
+  abbrev pub sheet-bound : ℕ → ℕ
+  sheet-bound = on-sheet (bound (t .parts))
+
+  -- What a judged table holds.
+  pub record Judged-so (found : Option Fault) (windows bounds : List ℕ) : Type 0 where
+    pub by-verdict : found ≡ verdict
+    pub by-window : (k : ℕ) → getD windows k 0 ≡ sheet-window k
+    pub by-bound : (k : ℕ) → getD bounds k 0 ≡ sheet-bound k
