@@ -1,2 +1,3 @@
 pub mod SumLaws
 pub mod LeastLaws
+pub mod WorkLaws

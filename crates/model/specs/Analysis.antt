@@ -34,20 +34,30 @@ module _ (m : Parts) where
   unfoldable pub blocked : ℕ → ℕ
   blocked i = greatest tasks (λ l. when (not (eqb l i) && m .order .blocks i l) (m .sections .longest l - 1))
 
+  -- the work of the counted tasks, i among them
+  abbrev pub counted-work : ℕ → ℕ → ℕ
+  counted-work i d = total tasks (λ o. when (m .order .counted i o) (work o d))
+
   -- the ticks that task i can have to wait for, with its own, in d ticks from the start of a busy window
   unfoldable pub load : ℕ → ℕ → ℕ
-  load i d = blocked i + total tasks (λ o. when (m .order .counted i o) (work o d))
+  load i d = blocked i + counted-work i d
 
   -- The busy window of task i: the least length that its load fills, or none up to 100,000.
   unfoldable pub window : ℕ → Option ℕ
   window i = least (load i) longest-window
 
-  -- the ticks that must pass in d ticks from the start of a window before a job of task i, released A ticks into it,
-  -- has begun its tail: all that goes before it, and its own ticks up to the first of the tail
+  -- the own share of a job of task i released A ticks into a window: the blocking, and the work of the task's jobs up
+  -- to it, its own up to the first tick of its tail
+  abbrev pub own-need : ℕ → ℕ → ℕ
+  own-need i A = blocked i + work i (A + 1) - m .sections .tail i + 1
+
+  -- the work of other tasks that can go before that job in d ticks
+  abbrev pub others-work : ℕ → ℕ → ℕ → ℕ
+  others-work i A d = total tasks (λ o. when (not (eqb o i)) (work o (within (m .order .reach i o A) d)))
+
+  -- the ticks that are needed in d ticks from the start of the window for that job to be in its tail
   unfoldable pub need : ℕ → ℕ → ℕ → ℕ
-  need i A d =
-      blocked i + work i (A + 1) - m .sections .tail i + 1
-      + total tasks (λ o. when (not (eqb o i)) (work o (within (m .order .reach i o A) d)))
+  need i A d = own-need i A + others-work i A d
 
   -- the least length by which that job's tail has begun
   unfoldable pub ready : ℕ → ℕ → Option ℕ

@@ -1,0 +1,3 @@
+// The busy-window analysis, written once over what the parts mean.
+mod demands;
+mod parts;
