@@ -3,6 +3,7 @@
 use mathlib.Core.Path.{_≡_, refl}
 use mathlib.Core.Bool.{Bool, true, false, cond}
 use mathlib.Core.List.{List}
+use mathlib.Core.Logic.{⊎-elim}
 use Prim.Native.Nat.{ℕ, _+_, _-_, _≤_, _<_, max}
 use native.Mathlib.Omega.{arith}
 use lib.Dec.{leb, ltb}
@@ -49,7 +50,11 @@ pub record LawfulRanking {X : Type 0} (by : Ranking X) : Type 0 where
 
 -- what rows say of two tasks of which the part does not have one
 for-both-absent : {X Y : Type 0} (rows : List X) (i o : ℕ) (otherwise : Y) (says : X → X → Y) → length rows ≤ max i o → for-both rows i o otherwise says ≡ otherwise
-for-both-absent rows i o otherwise says past = ?
+for-both-absent rows i o otherwise says past =
+    ⊎-elim
+    (λ within. let (x, at) = row-of rows i within in rw at (for-absent rows o otherwise (says x) (omega arith)))
+    (λ past-i. for-absent rows i otherwise _ past-i)
+    (cases-lt i (length rows))
 
 -- An order by a lawful ranking of rows keeps the laws.
 pub ranked-lawful : {X : Type 0} (by : Ranking X) (rows : List X) → LawfulRanking by → LawfulOrder (ranked by rows)
@@ -86,3 +91,53 @@ ranked-lawful by rows lawful = record {
   absent-blocks = λ i l. for-both-absent rows i l false _;
 }
 
+abbrev by-urgency : Ranking ℕ
+by-urgency = record {
+  ahead = λ own _ other _. leb other own;
+  reach = λ own other _. cond (leb own other) NoEnd (Ticks 0);
+  counted = λ own other. leb own other;
+  blocks = λ own lower. ltb lower own;
+}
+
+-- the whole window or nothing of it is reached, and in the first case the test has passed
+reach-passed : (test : Bool) → InReach 0 (cond test NoEnd (Ticks 0)) → test ≡ true
+reach-passed true tells = refl
+reach-passed false tells = absurd (omega arith)
+
+by-urgency-lawful : LawfulRanking by-urgency
+by-urgency-lawful = record {
+  total = λ x y r e behind. grind (arith, tells);
+  carries = λ x y z r e u first second. grind (arith, tells);
+  own-task = λ x r e longer. grind (arith, tells);
+  reached = λ x y w z A level. rw level tt;
+  counted-ahead = λ x y r e level. level;
+  counted-reach = λ x y A. reach-passed (leb x y);
+  blocks-behind = λ x y r e earlier behind. grind (arith, tells);
+}
+
+-- Fixed priority keeps the laws.
+pub fixed-priority-lawful : (us : List ℕ) → LawfulOrder (fixed-priority us)
+fixed-priority-lawful us = ranked-lawful by-urgency us by-urgency-lawful
+
+abbrev by-deadline : Ranking ℕ
+by-deadline = record {
+  ahead = λ own r other e. leb (r + own) (e + other);
+  reach = λ own other A. Ticks (A + 1 + own - other);
+  counted = λ _ _. true;
+  blocks = λ own lower. ltb own lower;
+}
+
+by-deadline-lawful : LawfulRanking by-deadline
+by-deadline-lawful = record {
+  total = λ x y r e behind. grind (arith, tells);
+  carries = λ x y z r e u first second. grind (arith, tells);
+  own-task = λ x r e longer. grind (arith, tells);
+  reached = λ x y w z A level. grind (arith, tells);
+  counted-ahead = λ x y r e level. refl;
+  counted-reach = λ x y A _. refl;
+  blocks-behind = λ x y r e earlier behind. grind (arith, tells);
+}
+
+-- Earliest deadline first keeps the laws.
+pub earliest-deadline-lawful : (ds : List ℕ) → LawfulOrder (earliest-deadline ds)
+earliest-deadline-lawful ds = ranked-lawful by-deadline ds by-deadline-lawful
