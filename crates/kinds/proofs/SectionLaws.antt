@@ -1,0 +1,116 @@
+-- The listed kinds of sections keep the laws of sections: it is enough that the shape of each task's row keeps them.
+use mathlib.Core.Path.{_≡_, refl}
+use mathlib.Core.Bool.{Bool, true, false, _&&_}
+use mathlib.Core.List.{List, [], _∷_}
+use Prim.Native.Nat.{ℕ, zero, suc, _+_, _-_, _≤_, _<_, max}
+use native.Mathlib.Omega.{arith}
+use lib.Dec.{leb, ltb, eqb}
+use lib.ListN.{length, take, getD}
+use Rattle.std.specs.Finite.{nth}
+use Rattle.std.specs.declared.option.Option.{Option}
+use Rattle.std.specs.declared.option.Option.the-variants.{Some, None}
+use Rattle.std.specs.shelf.Lists.{sum}
+use Rattle.std.proofs.shelf.Ways.{tells}
+use Rattle.model.specs.Rows.{outside, making-fault}
+use Rattle.model.specs.Sections.{SectionsMeaning, LawfulSections, most-cost}
+use Rattle.model.specs.declared.fault.Part.the-variants.{Sections}
+use Rattle.model.specs.declared.fault.Refusal.{Refusal}
+use Rattle.kinds.specs.ArrivalKinds.{used}
+use Rattle.kinds.specs.SectionKinds.{Shape, shaped, open-shape, shut-shape, floating-shape, points-shape, largest, final, open-sections, shut-sections, floating-sections, points-sections, costs-fault, floating-refused, floating-fault, points-refused, points-fault}
+use Rattle.kinds.specs.declared.FloatingTask.{FloatingTask}
+use Rattle.kinds.proofs.RowLaws.{row-of, for-absent, making-accepted, inside, neither}
+
+-- the laws of sections, of the shape of one task
+pub record LawfulShape (shape : Shape) : Type 0 where
+  pub tail-positive : 1 ≤ shape .tail
+  pub tail-within : shape .tail ≤ shape .cost
+  pub longest-positive : 1 ≤ shape .longest
+  pub longest-within : shape .longest ≤ shape .cost
+  pub cost-bounded : shape .cost ≤ most-cost
+  pub hold-short : (r s p : ℕ) → shape .hold r s p ≡ true → s < shape .longest
+  pub hold-unfinished : (r s p : ℕ) → shape .hold r s p ≡ true → r < shape .cost
+  pub open-before-tail : (r s p : ℕ) → shape .opens r s p ≡ true → r ≤ shape .cost - shape .tail
+  pub finish-within : (r s p : ℕ) → shape .done r s p ≡ true → r ≤ shape .cost
+
+-- Sections of lawful shapes keep the laws.
+pub shaped-lawful : {X : Type 0} (shape : X → Shape) (rows : List X) → ((k : ℕ) (row : X) → nth rows k ≡ Some row → LawfulShape (shape row)) → LawfulSections (shaped shape rows)
+shaped-lawful shape rows lawful = record {
+  tail-positive = λ k within. let (row, at) = row-of rows k within in rw at (lawful k row at .tail-positive);
+  tail-within = λ k within. let (row, at) = row-of rows k within in rw at (lawful k row at .tail-within);
+  longest-positive = λ k within. let (row, at) = row-of rows k within in rw at (lawful k row at .longest-positive);
+  longest-within = λ k within. let (row, at) = row-of rows k within in rw at (lawful k row at .longest-within);
+  cost-bounded = λ k within. let (row, at) = row-of rows k within in rw at (lawful k row at .cost-bounded);
+  hold-short = λ k r s p within. let (row, at) = row-of rows k within in rw at (lawful k row at .hold-short r s p);
+  hold-unfinished = λ k r s p within. let (row, at) = row-of rows k within in rw at (lawful k row at .hold-unfinished r s p);
+  open-before-tail = λ k r s p within. let (row, at) = row-of rows k within in rw at (lawful k row at .open-before-tail r s p);
+  finish-within = λ k r s p within. let (row, at) = row-of rows k within in rw at (lawful k row at .finish-within r s p);
+  absent-cost = λ k. for-absent rows k 0 _;
+  absent-longest = λ k. for-absent rows k 0 _;
+  absent-tail = λ k. for-absent rows k 0 _;
+  absent-hold = λ k r s p. for-absent rows k false _;
+  absent-open = λ k r s p. for-absent rows k false _;
+  absent-finish = λ k r s p. for-absent rows k false _;
+}
+
+-- Sections whose making refuses every row without a lawful shape keep the laws.
+made-lawful : {X : Type 0} (shape : X → Shape) (refused : X → Option Refusal) → ((row : X) → refused row ≡ None → LawfulShape (shape row)) → (rows : List X) → making-fault refused Sections rows ≡ None → LawfulSections (shaped shape rows)
+made-lawful shape refused lawful rows none = shaped-lawful shape rows (λ k row at. lawful row (making-accepted refused Sections rows none k row at))
+
+open-shape-lawful : (cost : ℕ) → outside 1 most-cost cost ≡ None → LawfulShape (open-shape cost)
+open-shape-lawful cost none =
+    let limits = inside 1 most-cost cost none in
+    record {
+      tail-positive = omega arith;
+      tail-within = omega arith;
+      longest-positive = omega arith;
+      longest-within = omega arith;
+      cost-bounded = omega arith;
+      hold-short = λ r s p holds. grind (arith, tells);
+      hold-unfinished = λ r s p holds. grind (arith, tells);
+      open-before-tail = λ r s p opens. grind (arith, tells);
+      finish-within = λ r s p ends. grind (arith, tells);
+    }
+
+-- Open sections keep the laws.
+pub open-lawful : (cs : List ℕ) → costs-fault cs ≡ None → LawfulSections (open-sections cs)
+open-lawful = made-lawful open-shape (outside 1 most-cost) open-shape-lawful
+
+shut-shape-lawful : (cost : ℕ) → outside 1 most-cost cost ≡ None → LawfulShape (shut-shape cost)
+shut-shape-lawful cost none =
+    let limits = inside 1 most-cost cost none in
+    record {
+      tail-positive = omega arith;
+      tail-within = omega arith;
+      longest-positive = omega arith;
+      longest-within = omega arith;
+      cost-bounded = omega arith;
+      hold-short = λ r s p holds. grind (arith, tells);
+      hold-unfinished = λ r s p holds. grind (arith, tells);
+      open-before-tail = λ r s p opens. grind (arith, tells);
+      finish-within = λ r s p ends. grind (arith, tells);
+    }
+
+-- Shut sections keep the laws.
+pub shut-lawful : (cs : List ℕ) → costs-fault cs ≡ None → LawfulSections (shut-sections cs)
+shut-lawful = made-lawful shut-shape (outside 1 most-cost) shut-shape-lawful
+
+floating-shape-lawful : (task : FloatingTask) → floating-refused task ≡ None → LawfulShape (floating-shape task)
+floating-shape-lawful task none =
+    let (none-cost, none-longest) = neither (outside 1 most-cost (task .cost)) _ none in
+    let cost-limits = inside 1 most-cost (task .cost) none-cost in
+    let longest-limits = inside 1 (task .cost) (task .longest) none-longest in
+    record {
+      tail-positive = omega arith;
+      tail-within = omega arith;
+      longest-positive = omega arith;
+      longest-within = omega arith;
+      cost-bounded = omega arith;
+      hold-short = λ r s p holds. grind (arith, tells);
+      hold-unfinished = λ r s p holds. grind (arith, tells);
+      open-before-tail = λ r s p opens. grind (arith, tells);
+      finish-within = λ r s p ends. grind (arith, tells);
+    }
+
+-- Floating sections keep the laws.
+pub floating-lawful : (rows : List FloatingTask) → floating-fault rows ≡ None → LawfulSections (floating-sections rows)
+floating-lawful = made-lawful floating-shape floating-refused floating-shape-lawful
