@@ -128,15 +128,7 @@ by-deadline = record {
 }
 
 by-deadline-lawful : LawfulRanking by-deadline
-by-deadline-lawful = record {
-  total = λ x y r e behind. grind (arith, tells);
-  carries = λ x y z r e u first second. grind (arith, tells);
-  own-task = λ x r e longer. grind (arith, tells);
-  reached = λ x y w z A level. grind (arith, tells);
-  counted-ahead = λ x y r e level. refl;
-  counted-reach = λ x y A _. refl;
-  blocks-behind = λ x y r e earlier behind. grind (arith, tells);
-}
+by-deadline-lawful = grind (arith, tells)
 
 -- Earliest deadline first keeps the laws.
 pub earliest-deadline-lawful : (ds : List ℕ) → LawfulOrder (earliest-deadline ds)
