@@ -105,15 +105,7 @@ reach-passed true tells = refl
 reach-passed false tells = absurd (omega arith)
 
 by-urgency-lawful : LawfulRanking by-urgency
-by-urgency-lawful = record {
-  total = λ x y r e behind. grind (arith, tells);
-  carries = λ x y z r e u first second. grind (arith, tells);
-  own-task = λ x r e longer. grind (arith, tells);
-  reached = λ x y w z A level. rw level tt;
-  counted-ahead = λ x y r e level. level;
-  counted-reach = λ x y A. reach-passed (leb x y);
-  blocks-behind = λ x y r e earlier behind. grind (arith, tells);
-}
+by-urgency-lawful = grind (arith, tells, reach-passed)
 
 -- Fixed priority keeps the laws.
 pub fixed-priority-lawful : (us : List ℕ) → LawfulOrder (fixed-priority us)
