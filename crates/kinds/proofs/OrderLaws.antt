@@ -9,12 +9,10 @@ use native.Mathlib.Omega.{arith}
 use lib.Dec.{leb, ltb}
 use lib.ListN.{length}
 use Rattle.std.specs.Finite.{nth}
-use Rattle.std.specs.declared.option.Option.{Option}
-use Rattle.std.specs.declared.option.Option.the-variants.{Some, None}
+use Rattle.std.specs.declared.option.Option.the-variants.{Some}
 use Rattle.std.proofs.shelf.Tests.{cases-lt}
 use Rattle.std.proofs.shelf.Ways.{tells}
-use Rattle.model.specs.Order.{OrderMeaning, LawfulOrder, InReach, job}
-use Rattle.model.specs.declared.released.Released.{Released}
+use Rattle.model.specs.Order.{OrderMeaning, LawfulOrder, InReach}
 use Rattle.model.specs.declared.released.Reach.{Reach}
 use Rattle.model.specs.declared.released.Reach.the-variants.{Ticks, NoEnd}
 use Rattle.kinds.specs.OrderKinds.{for-both, fixed-priority, earliest-deadline}
@@ -56,41 +54,38 @@ for-both-absent rows i o otherwise says past =
     (λ past-i. for-absent rows i otherwise _ past-i)
     (cases-lt i (length rows))
 
+-- the rows of two tasks that the part has
+rows-of : {X : Type 0} (rows : List X) (i o : ℕ) → i < length rows → o < length rows → (x : X) × (y : X) × (nth rows i ≡ Some x) × (nth rows o ≡ Some y)
+rows-of rows i o has-i has-o =
+    let (x, at-x) = row-of rows i has-i in
+    let (y, at-y) = row-of rows o has-o in
+    (x, y, at-x, at-y)
+
 -- An order by a lawful ranking of rows keeps the laws.
 pub ranked-lawful : {X : Type 0} (by : Ranking X) (rows : List X) → LawfulRanking by → LawfulOrder (ranked by rows)
 ranked-lawful by rows lawful = record {
   total = λ j l has-j has-l.
-    let (x, at-x) = row-of rows (j .task) has-j in
-    let (y, at-y) = row-of rows (l .task) has-l in
-    rw (at-x, at-y) (lawful .total x y (j .at) (l .at));
+      let (x, y, at-x, at-y) = rows-of rows (j .task) (l .task) has-j has-l in rw (at-x, at-y) (lawful .total x y (j .at) (l .at));
   carries = λ j l n has-j has-l has-n.
-    let (x, at-x) = row-of rows (j .task) has-j in
-    let (y, at-y) = row-of rows (l .task) has-l in
-    let (z, at-z) = row-of rows (n .task) has-n in
-    rw (at-x, at-y, at-z) (lawful .carries x y z (j .at) (l .at) (n .at));
+      let (x, y, at-x, at-y) = rows-of rows (j .task) (l .task) has-j has-l in
+      let (z, at-z) = row-of rows (n .task) has-n in
+      rw (at-x, at-y, at-z) (lawful .carries x y z (j .at) (l .at) (n .at));
   own-task = λ k r e within longer. let (x, at) = row-of rows k within in rw at (lawful .own-task x r e longer);
   reached = λ i o w z A has-i has-o.
-    let (x, at-x) = row-of rows i has-i in
-    let (y, at-y) = row-of rows o has-o in
-    rw (at-x, at-y) (lawful .reached x y w z A);
+      let (x, y, at-x, at-y) = rows-of rows i o has-i has-o in rw (at-x, at-y) (lawful .reached x y w z A);
   counted-ahead = λ i o r e has-i has-o.
-    let (x, at-x) = row-of rows i has-i in
-    let (y, at-y) = row-of rows o has-o in
-    rw (at-x, at-y) (lawful .counted-ahead x y r e);
+      let (x, y, at-x, at-y) = rows-of rows i o has-i has-o in rw (at-x, at-y) (lawful .counted-ahead x y r e);
   counted-reach = λ i o A has-i has-o.
-    let (x, at-x) = row-of rows i has-i in
-    let (y, at-y) = row-of rows o has-o in
-    rw (at-x, at-y) (lawful .counted-reach x y A);
+      let (x, y, at-x, at-y) = rows-of rows i o has-i has-o in rw (at-x, at-y) (lawful .counted-reach x y A);
   blocks-behind = λ i l r e has-i has-l.
-    let (x, at-x) = row-of rows i has-i in
-    let (y, at-y) = row-of rows l has-l in
-    rw (at-x, at-y) (lawful .blocks-behind x y r e);
+      let (x, y, at-x, at-y) = rows-of rows i l has-i has-l in rw (at-x, at-y) (lawful .blocks-behind x y r e);
   absent-ahead = λ j l. for-both-absent rows (j .task) (l .task) false _;
   absent-reach = λ i o A. for-both-absent rows i o (Ticks 0) _;
   absent-counted = λ i o. for-both-absent rows i o false _;
   absent-blocks = λ i l. for-both-absent rows i l false _;
 }
 
+-- rows that are urgencies
 abbrev by-urgency : Ranking ℕ
 by-urgency = record {
   ahead = λ own _ other _. leb other own;
@@ -99,11 +94,12 @@ by-urgency = record {
   blocks = λ own lower. ltb lower own;
 }
 
--- the whole window or nothing of it is reached, and in the first case the test has passed
+-- where the test decides between the whole window and none of it, and something is reached, the test has passed
 reach-passed : (test : Bool) → InReach 0 (cond test NoEnd (Ticks 0)) → test ≡ true
-reach-passed true tells = refl
-reach-passed false tells = absurd (omega arith)
+reach-passed true something = refl
+reach-passed false something = absurd (omega arith)
 
+-- the larger urgency first is a lawful ranking
 by-urgency-lawful : LawfulRanking by-urgency
 by-urgency-lawful = grind (arith, tells, reach-passed)
 
@@ -111,6 +107,7 @@ by-urgency-lawful = grind (arith, tells, reach-passed)
 pub fixed-priority-lawful : (us : List ℕ) → LawfulOrder (fixed-priority us)
 fixed-priority-lawful us = ranked-lawful by-urgency us by-urgency-lawful
 
+-- rows that are relative deadlines
 abbrev by-deadline : Ranking ℕ
 by-deadline = record {
   ahead = λ own r other e. leb (r + own) (e + other);
@@ -119,6 +116,7 @@ by-deadline = record {
   blocks = λ own lower. ltb own lower;
 }
 
+-- and so is the earlier of release plus relative deadline
 by-deadline-lawful : LawfulRanking by-deadline
 by-deadline-lawful = grind (arith, tells)
 

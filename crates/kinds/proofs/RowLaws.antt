@@ -5,7 +5,6 @@ use mathlib.Core.Bool.{Bool, true, false, cond}
 use mathlib.Core.List.{List, [], _∷_}
 use Prim.Native.Nat.{ℕ, zero, suc, _≤_, _<_}
 use native.Mathlib.Omega.{arith}
-use lib.Dec.{leb}
 use lib.ListN.{length}
 use Rattle.std.specs.Finite.{nth}
 use Rattle.std.specs.declared.option.Option.{Option}
@@ -13,12 +12,11 @@ use Rattle.std.specs.declared.option.Option.the-variants.{Some, None}
 use Rattle.std.proofs.shelf.Maps.{nth-past}
 use Rattle.std.proofs.shelf.Ways.{tells}
 use Rattle.model.specs.Faults.{_or-else_}
-use Rattle.model.specs.Rows.{from-row, for-task, outside, between, as-fault, rows-fault, making-fault, most-tasks}
-use Rattle.model.specs.declared.fault.Fault.{Fault}
+use Rattle.model.specs.Rows.{for-task, outside, between, as-fault, rows-fault, making-fault, most-tasks}
 use Rattle.model.specs.declared.fault.Part.{Part}
 use Rattle.model.specs.declared.fault.Refusal.{Refusal}
 
--- of two of which neither is there, neither the first nor the second is
+-- where the first of two faults is none, each of the two is none
 pub neither : {X : Type 0} (first later : Option X) → (first or-else later) ≡ None → (first ≡ None) × (later ≡ None)
 neither None later e = (refl, e)
 neither (Some f) later e = (e, cc)
@@ -38,7 +36,7 @@ unfaulted : (r : Option Refusal) (part : Part) (k : ℕ) → as-fault r part k �
 unfaulted None part k e = refl
 unfaulted (Some r) part k e = cc
 
--- a refusal under a test that gives none: the test passes, and what stands under it gives none either
+-- where what a test refuses or passes on is none, it has passed, and what it passed on is none
 pub passed : {X : Type 0} (test : Bool) (under : Option X) (found : X) → cond test under (Some found) ≡ None → (test ≡ true) × (under ≡ None)
 passed true under found none = (refl, none)
 passed false under found none = (cc, cc)
@@ -47,7 +45,7 @@ module _ {X : Type 0} (refused : X → Option Refusal) (part : Part) where
   -- no row of rows without fault is refused
   pub rows-accepted : (n : ℕ) (rows : List X) → rows-fault refused part n rows ≡ None → (k : ℕ) (row : X) → nth rows k ≡ Some row → refused row ≡ None
   rows-accepted n [] none k row at = cc
-  rows-accepted n (x ∷ xs) none zero row at = 
+  rows-accepted n (x ∷ xs) none zero row at =
       let found : x ≡ row = cc in
       rw (← found) (unfaulted (refused x) part n (neither _ _ none .0))
   rows-accepted n (x ∷ xs) none (suc k) row at = rows-accepted (suc n) xs (neither _ _ none .1) k row at

@@ -1,10 +1,9 @@
 -- The listed kinds of sections keep the laws of sections: it is enough that the shape of each task's row keeps them.
-use mathlib.Core.Path.{_≡_, refl}
-use mathlib.Core.Bool.{Bool, true, false, _&&_}
+use mathlib.Core.Path.{_≡_}
+use mathlib.Core.Bool.{true, false}
 use mathlib.Core.List.{List, [], _∷_}
-use Prim.Native.Nat.{ℕ, zero, suc, _+_, _-_, _≤_, _<_, max}
+use Prim.Native.Nat.{ℕ, zero, suc, _+_, _-_, _≤_, _<_}
 use native.Mathlib.Omega.{arith}
-use lib.Dec.{leb, ltb, eqb}
 use lib.ListN.{length, take, getD}
 use Rattle.std.specs.Finite.{nth}
 use Rattle.std.specs.declared.option.Option.{Option}
@@ -13,7 +12,7 @@ use Rattle.std.specs.shelf.Lists.{sum}
 use Rattle.std.proofs.shelf.Sums.{sumBy-cons, sumBy-take-le}
 use Rattle.std.proofs.shelf.Ways.{tells}
 use Rattle.model.specs.Rows.{outside, making-fault}
-use Rattle.model.specs.Sections.{SectionsMeaning, LawfulSections, most-cost}
+use Rattle.model.specs.Sections.{LawfulSections, most-cost}
 use Rattle.model.specs.declared.fault.Part.the-variants.{Sections}
 use Rattle.model.specs.declared.fault.Refusal.{Refusal}
 use Rattle.kinds.specs.ArrivalKinds.{used}
@@ -54,27 +53,26 @@ shaped-lawful shape rows lawful = record {
 }
 
 -- Sections whose making refuses every row without a lawful shape keep the laws.
-made-lawful : {X : Type 0} (shape : X → Shape) (refused : X → Option Refusal) → ((row : X) → refused row ≡ None → LawfulShape (shape row)) → (rows : List X) → making-fault refused Sections rows ≡ None → LawfulSections (shaped shape rows)
+pub made-lawful : {X : Type 0} (shape : X → Shape) (refused : X → Option Refusal) → ((row : X) → refused row ≡ None → LawfulShape (shape row)) → (rows : List X) → making-fault refused Sections rows ≡ None → LawfulSections (shaped shape rows)
 made-lawful shape refused lawful rows none = shaped-lawful shape rows (λ k row at. lawful row (making-accepted refused Sections rows none k row at))
 
+-- a task that opens at every tick, of a cost that is not refused
 open-shape-lawful : (cost : ℕ) → outside 1 most-cost cost ≡ None → LawfulShape (open-shape cost)
-open-shape-lawful cost none =
-    let limits = inside 1 most-cost cost none in
-    grind (arith, tells)
+open-shape-lawful cost none = let limits = inside 1 most-cost cost none in grind (arith, tells)
 
 -- Open sections keep the laws.
 pub open-lawful : (cs : List ℕ) → costs-fault cs ≡ None → LawfulSections (open-sections cs)
 open-lawful = made-lawful open-shape (outside 1 most-cost) open-shape-lawful
 
+-- a task that never opens, of a cost that is not refused
 shut-shape-lawful : (cost : ℕ) → outside 1 most-cost cost ≡ None → LawfulShape (shut-shape cost)
-shut-shape-lawful cost none =
-    let limits = inside 1 most-cost cost none in
-    grind (arith, tells)
+shut-shape-lawful cost none = let limits = inside 1 most-cost cost none in grind (arith, tells)
 
 -- Shut sections keep the laws.
 pub shut-lawful : (cs : List ℕ) → costs-fault cs ≡ None → LawfulSections (shut-sections cs)
 shut-lawful = made-lawful shut-shape (outside 1 most-cost) shut-shape-lawful
 
+-- a task with floating sections that is not refused
 floating-shape-lawful : (task : FloatingTask) → floating-refused task ≡ None → LawfulShape (floating-shape task)
 floating-shape-lawful task none =
     let (none-cost, none-longest) = neither (outside 1 most-cost (task .cost)) _ none in
@@ -90,36 +88,36 @@ floating-lawful = made-lawful floating-shape floating-refused floating-shape-law
 sum-first : (x : ℕ) (xs : List ℕ) → sum (x ∷ xs) ≡ x + sum xs
 sum-first = sumBy-cons (λ x. x)
 
--- the last of the segments is one of them
+-- the last of the segments is at most their sum
 final-within : (x : ℕ) (xs : List ℕ) → final x xs ≤ sum (x ∷ xs)
 final-within x [] = omega arith
 final-within x (y ∷ ys) = omega (arith, final-within y ys, sum-first x (y ∷ ys))
 
--- no number that is used is 0
+-- the last of the used numbers behind one that is not 0 is not 0
 final-positive : (x : ℕ) (row : List ℕ) → 1 ≤ x → 1 ≤ final x (used row)
 final-positive x [] positive = positive
 final-positive x (zero ∷ row) positive = positive
 final-positive x (suc y ∷ row) positive = final-positive (suc y) row (omega arith)
 
--- the greatest number is one of them
+-- the greatest of the numbers is at most their sum
 largest-within : (xs : List ℕ) → largest xs ≤ sum xs
 largest-within [] = omega arith
 largest-within (x ∷ xs) = omega (arith, largest-within xs, sum-first x xs)
 
--- and none is greater
+-- and no number is greater
 at-most-largest : (xs : List ℕ) (p : ℕ) → getD xs p 0 ≤ largest xs
 at-most-largest [] p = omega arith
 at-most-largest (x ∷ xs) zero = omega arith
 at-most-largest (x ∷ xs) (suc p) = omega (arith, at-most-largest xs p)
 
--- the segments up to one before the last leave the last over
+-- segments from the first on that do not come to the last leave it over
 last-left-over : (x : ℕ) (xs : List ℕ) (n : ℕ) → n ≤ length xs → sum (take n (x ∷ xs)) + final x xs ≤ sum (x ∷ xs)
 last-left-over x xs zero before = omega (arith, final-within x xs)
 last-left-over x [] (suc n) before = absurd (omega arith)
 last-left-over x (y ∷ ys) (suc n) before =
     omega (arith, last-left-over y ys n, sum-first x (y ∷ ys), sum-first x (take n (y ∷ ys)))
 
--- segments of which the first and the last are not 0
+-- segments of which neither the first nor the last is 0, and that are not too long in all, as a shape
 segments-lawful : (x : ℕ) (xs : List ℕ) → 1 ≤ x → 1 ≤ final x xs → sum (x ∷ xs) ≤ most-cost → LawfulShape (points-shape (x ∷ xs))
 segments-lawful x xs first last small =
     let tail = final-within x xs in
@@ -142,6 +140,7 @@ used-lawful [] first small = absurd (omega arith)
 used-lawful (zero ∷ xs) first small = absurd (omega arith)
 used-lawful (suc x ∷ xs) first small = segments-lawful (suc x) (used xs) first (final-positive (suc x) xs first) small
 
+-- the segments of a row that is not refused
 points-shape-lawful : (row : List ℕ) → points-refused row ≡ None → LawfulShape (points-shape (used row))
 points-shape-lawful row none =
     let (first, behind) = neither (outside 1 most-cost (getD row 0 0)) _ none in
