@@ -1,0 +1,4 @@
+pub mod RowLaws
+pub mod ArrivalLaws
+pub mod OrderLaws
+pub mod SectionLaws
