@@ -1,2 +1,4 @@
 pub mod SumLaws
 pub mod LeastLaws
+pub mod VerdictLaws
+pub mod AnalysisLaws
