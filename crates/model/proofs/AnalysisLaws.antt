@@ -17,7 +17,7 @@ use Rattle.model.specs.Sums.{when, total}
 use Rattle.model.specs.Tables.{Lawful}
 use Rattle.model.specs.declared.released.Reach.{Reach}
 use Rattle.model.specs.declared.released.Reach.the-variants.{Ticks, NoEnd}
-use Rattle.model.proofs.LeastLaws.{least-some, least-within}
+use Rattle.model.proofs.LeastLaws.{Least-met, least-some, least-within}
 use Rattle.model.proofs.SumLaws.{when-below, when-rises, when-implies, total-le, total-slack}
 
 -- the lesser of a length and a reach is at most the length
@@ -44,6 +44,16 @@ module _ (m : Parts) where
   -- the term of task o in the need of a job of task i
   abbrev pub others-work : ℕ → ℕ → ℕ → ℕ → ℕ
   others-work i A d o = when (not (eqb o i)) (work m o (within (m .order .reach i o A) d))
+
+  -- a window is the least length that the load fills
+  pub window-least : (i w : ℕ) → window m i ≡ Some w → Least-met (load m i) longest-window w
+  unfolding window
+  window-least i w found = least-some (load m i) longest-window w found
+
+  -- a job is ready at the least length that its need fills
+  pub ready-least : (i A d : ℕ) → ready m i A ≡ Some d → Least-met (need m i A) longest-window d
+  unfolding ready
+  ready-least i A d found = least-some (need m i A) longest-window d found
 
 module _ (m : Parts) (arrivals : LawfulArrivals (m .arrivals)) where
   -- the work of a task never falls in the length
@@ -113,8 +123,8 @@ module _ (m : Parts) (lawful : Lawful m) (order-tasks : m .order .tasks ≡ m .a
 
   -- where a task has a window, a job of each offset in it is ready within it
   pub ready-found : (i w A : ℕ) → i < tasks m → window m i ≡ Some w → A < w → (d : ℕ) × (ready m i A ≡ Some d) × (d ≤ w)
-  unfolding window ready
+  unfolding ready
   ready-found i w A has found early =
-      let least = least-some (load m i) longest-window w found in
+      let least = window-least m i w found in
       let needed = need-within-load i A w has early (omega arith) in
       least-within (need m i A) longest-window w (omega arith) (omega arith) (omega arith)

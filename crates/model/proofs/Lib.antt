@@ -2,3 +2,4 @@ pub mod SumLaws
 pub mod LeastLaws
 pub mod VerdictLaws
 pub mod AnalysisLaws
+pub mod LighterLaws
