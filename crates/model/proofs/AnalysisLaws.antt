@@ -1,31 +1,30 @@
 -- The analysis of one table: its load and its need never fall, the need is within the load, and where a task has a
 -- window, each offset of it is ready within it.
 use mathlib.Core.Path.{_≡_, refl}
-use mathlib.Core.Bool.{Bool, true, false, not}
+use mathlib.Core.Bool.{true, not}
 use mathlib.Core.Logic.{_⊎_, inl, inr, ⊎-elim}
-use Prim.Native.Nat.{ℕ, zero, suc, _+_, _-_, _*_, _≤_, _<_}
+use Prim.Native.Nat.{ℕ, zero, suc, _+_, _-_, _≤_, _<_}
 use native.Mathlib.Nat.{mul-le-mul-left}
 use native.Mathlib.Omega.{arith}
 use lib.Dec.{eqb}
-use Rattle.std.specs.declared.option.Option.{Option}
-use Rattle.std.specs.declared.option.Option.the-variants.{Some, None}
+use Rattle.std.specs.declared.option.Option.the-variants.{Some}
 use Rattle.std.proofs.shelf.Tests.{eq-eqb}
-use Rattle.model.specs.Analysis.{Parts, longest-window, tasks, work, blocked, load, window, need, ready}
+use Rattle.model.specs.Analysis.{Parts, longest-window, tasks, work, load, window, need, ready}
 use Rattle.model.specs.Arrivals.{LawfulArrivals, last-length}
 use Rattle.model.specs.Order.{InReach, within}
-use Rattle.model.specs.Sums.{when, total}
+use Rattle.model.specs.Sums.{when}
 use Rattle.model.specs.Tables.{Lawful}
 use Rattle.model.specs.declared.released.Reach.{Reach}
 use Rattle.model.specs.declared.released.Reach.the-variants.{Ticks, NoEnd}
 use Rattle.model.proofs.LeastLaws.{Least-met, least-some, least-within}
-use Rattle.model.proofs.SumLaws.{when-below, when-rises, when-implies, total-le, total-slack}
+use Rattle.model.proofs.SumLaws.{when-below, when-rises, total-le, total-slack}
 
 -- the lesser of a length and a reach is at most the length
 pub within-le : (r : Reach) (d : ℕ) → within r d ≤ d
 within-le (Ticks n) d = omega arith
 within-le NoEnd d = omega arith
 
--- and never falls in it
+-- the lesser of a length and a reach never falls in the length
 pub within-rises : (r : Reach) (d e : ℕ) → d ≤ e → within r d ≤ within r e
 within-rises (Ticks n) d e longer = omega arith
 within-rises NoEnd d e longer = longer
@@ -66,26 +65,31 @@ module _ (m : Parts) (arrivals : LawfulArrivals (m .arrivals)) where
       let released : 1 ≤ m .arrivals .count i d = omega (arith, arrivals .some-at-one i has, arrivals .rises i 1 d has positive last) in
       omega (arith, mul-le-mul-left (m .sections .cost i) released)
 
+  -- what the load counts of a task never falls in the length
+  pub counted-rises : (i o d e : ℕ) → o < tasks m → d ≤ e → e ≤ last-length → counted-work m i d o ≤ counted-work m i e o
+  counted-rises i o d e has longer last =
+      when-rises (m .order .counted i o) (work m o d) (work m o e) (work-rises o d e has longer last)
+
   -- the load never falls in the length
   pub load-rises : (i d e : ℕ) → d ≤ e → e ≤ last-length → load m i d ≤ load m i e
   unfolding load
   load-rises i d e longer last =
-      let each : (o : ℕ) → o < tasks m → counted-work m i d o ≤ counted-work m i e o =
-        λ o has. when-rises (m .order .counted i o) (work m o d) (work m o e) (work-rises o d e has longer last)
-      in
-      omega (arith, total-le (tasks m) (counted-work m i d) (counted-work m i e) each)
+      let sums = total-le (tasks m) (counted-work m i d) (counted-work m i e) (λ o has. counted-rises i o d e has longer last) in
+      omega arith
+
+  -- what the need has of another task never falls in the length
+  pub others-rise : (i o A d e : ℕ) → o < tasks m → d ≤ e → e ≤ last-length → others-work m i A d o ≤ others-work m i A e o
+  others-rise i o A d e has longer last =
+      let r = m .order .reach i o A in
+      let rise = work-rises o (within r d) (within r e) has (within-rises r d e longer) (omega (arith, within-le r e)) in
+      when-rises (not (eqb o i)) (work m o (within r d)) (work m o (within r e)) rise
 
   -- the need of a job never falls in the length
   pub need-rises : (i A d e : ℕ) → d ≤ e → e ≤ last-length → need m i A d ≤ need m i A e
   unfolding need
   need-rises i A d e longer last =
-      let each : (o : ℕ) → o < tasks m → others-work m i A d o ≤ others-work m i A e o =
-        λ o has.
-          let r = m .order .reach i o A in
-          let rise = work-rises o (within r d) (within r e) has (within-rises r d e longer) (omega (arith, within-le r e)) in
-          when-rises (not (eqb o i)) (work m o (within r d)) (work m o (within r e)) rise
-      in
-      omega (arith, total-le (tasks m) (others-work m i A d) (others-work m i A e) each)
+      let sums = total-le (tasks m) (others-work m i A d) (others-work m i A e) (λ o has. others-rise i o A d e has longer last) in
+      omega arith
 
 module _ (m : Parts) (lawful : Lawful m) (order-tasks : m .order .tasks ≡ m .arrivals .tasks) (sections-tasks : m .sections .tasks ≡ m .arrivals .tasks) where
   -- a task is counted for itself
@@ -99,24 +103,28 @@ module _ (m : Parts) (lawful : Lawful m) (order-tasks : m .order .tasks ≡ m .a
   reached-counted i o A d has other last =
       let r = m .order .reach i o A in
       let ordered : (i < m .order .tasks) × (o < m .order .tasks) = omega arith in
-      ⊎-elim
-      (λ first.
-          rw (lawful .order .counted-reach i o A (ordered .0) (ordered .1) first)
-          (work-rises m (lawful .arrivals) o (within r d) d other (within-le r d) last))
-      (λ none. rw (none d, lawful .arrivals .none-at-zero o other) (omega arith))
-      (reach-cases r)
+      let rise = work-rises m (lawful .arrivals) o (within r d) d other (within-le r d) last in
+      ⊎-elim (λ first. rw (lawful .order .counted-reach i o A (ordered .0) (ordered .1) first) rise)
+      (λ none. rw (none d, lawful .arrivals .none-at-zero o other) (omega arith)) (reach-cases r)
+
+  -- what the need has of another task is no more than what the load counts of it
+  pub others-counted : (i o A d : ℕ) → i < tasks m → o < tasks m → d ≤ last-length → others-work m i A d o ≤ counted-work m i d o
+  others-counted i o A d has other last =
+      let r = m .order .reach i o A in
+      when-below (not (eqb o i)) (work m o (within r d)) (counted-work m i d o) (λ _. reached-counted i o A d has other last)
+
+  -- the load counts of the task itself what the need leaves out, and its own work up to the offset
+  pub own-counted : (i A d : ℕ) → i < tasks m → A < d → d ≤ last-length → others-work m i A d i + work m i (A + 1) ≤ counted-work m i d i
+  own-counted i A d has early last =
+      let rise = work-rises m (lawful .arrivals) i (A + 1) d has (omega arith) last in
+      rw (eq-eqb i i refl, counts-itself i has) (omega arith)
 
   -- the need, with the rest of the tail, is within the load
   pub need-within-load : (i A d : ℕ) → i < tasks m → A < d → d ≤ last-length → need m i A d + (m .sections .tail i - 1) ≤ load m i d
   unfolding need load
   need-within-load i A d has early last =
-      let each : (o : ℕ) → o < tasks m → others-work m i A d o ≤ counted-work m i d o =
-        λ o other. when-below (not (eqb o i)) (work m o (within (m .order .reach i o A) d)) (counted-work m i d o) (λ _. reached-counted i o A d has other last)
-      in
-      let own : others-work m i A d i + work m i (A + 1) ≤ counted-work m i d i =
-        rw (eq-eqb i i refl, counts-itself i has) (omega (arith, work-rises m (lawful .arrivals) i (A + 1) d has (omega arith) last))
-      in
-      let sums = total-slack (tasks m) i (work m i (A + 1)) (others-work m i A d) (counted-work m i d) has each own in
+      let own = own-counted i A d has early last in
+      let sums = total-slack (tasks m) i (work m i (A + 1)) (others-work m i A d) (counted-work m i d) has (λ o other. others-counted i o A d has other last) own in
       let costs = cost-within-work m (lawful .arrivals) i (A + 1) has (omega arith) (omega arith) in
       let sectioned : i < m .sections .tasks = omega arith in
       omega (arith, lawful .sections .tail-within i sectioned, lawful .sections .tail-positive i sectioned)
