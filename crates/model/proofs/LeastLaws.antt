@@ -1,6 +1,5 @@
 -- The least length that meets a demand: what finding one or none says, and how two demands compare.
 use mathlib.Core.Path.{_≡_, refl, ap, subst, _∙_}
-use mathlib.Core.Bool.{cond}
 use mathlib.Core.Logic.{_⊎_, inl, inr, ⊎-elim}
 use Prim.Native.Nat.{ℕ, zero, suc, _+_, _≤_, _<_}
 use native.Mathlib.Omega.{arith}
@@ -8,22 +7,12 @@ use lib.Dec.{leb}
 use Rattle.std.specs.declared.option.Option.{Option}
 use Rattle.std.specs.declared.option.Option.the-variants.{Some, None}
 use Rattle.std.proofs.shelf.Tests.{cases-eq, cases-lt, cond-both, leb-true, leb-false}
-use Rattle.model.specs.Sums.{first-met, least}
+use Rattle.model.specs.Sums.{first-met, least, Unmet, Never-met, Rises, Least-met}
 
--- the demand is above each length from one on, before another
-abbrev pub Unmet : (ℕ → ℕ) → ℕ → ℕ → Type 0
-Unmet demand from to = (e : ℕ) → from ≤ e → e < to → e < demand e
-
--- no length up to the limit is met
-abbrev pub Never-met : (ℕ → ℕ) → ℕ → Type 0
-Never-met demand limit = (e : ℕ) → 1 ≤ e → e ≤ limit → e < demand e
-
--- d is the least length from 1 to the limit at which the demand is at most the length
-pub record Least-met (demand : ℕ → ℕ) (limit d : ℕ) : Type 0 where
-  pub positive : 1 ≤ d
-  pub within : d ≤ limit
-  pub met : demand d ≤ d
-  pub earlier : Unmet demand 1 d
+-- the search finds a least length, or none
+abbrev pub Searched : (ℕ → ℕ) → ℕ → Type 0
+Searched demand limit =
+    ((d : ℕ) × (least demand limit ≡ Some d) × Least-met demand limit d) ⊎ ((least demand limit ≡ None) × Never-met demand limit)
 
 -- what an answer of the search over n lengths says
 abbrev Says : (ℕ → ℕ) → ℕ → ℕ → Option ℕ → Type 0
@@ -41,31 +30,32 @@ says-more demand from n (Some d) first says = (omega arith, omega arith, says .2
 says-more demand from n None first says = unmet-first demand from (from + suc n) first (λ e low high. says e low (omega arith))
 
 -- the search answers so
-searched : (demand : ℕ → ℕ) (n from : ℕ) → Says demand from n (first-met demand n from)
+search-says : (demand : ℕ → ℕ) (n from : ℕ) → Says demand from n (first-met demand n from)
 unfolding first-met
-searched demand zero from = omega arith
-searched demand (suc n) from =
+search-says demand zero from = omega arith
+search-says demand (suc n) from =
     cond-both (leb (demand from) from) (Some from) (first-met demand n (suc from)) (Says demand from (suc n))
     (λ met. (omega arith, omega arith, leb-true (demand from) from met, omega arith))
-    (λ unmet. says-more demand from n (first-met demand n (suc from)) (leb-false (demand from) from unmet) (searched demand n (suc from)))
+    (λ unmet. says-more demand from n (first-met demand n (suc from)) (leb-false (demand from) from unmet) (search-says demand n (suc from)))
 
 module _ (demand : ℕ → ℕ) (limit : ℕ) where
   -- a length that is found is the least
   pub least-some : (d : ℕ) → least demand limit ≡ Some d → Least-met demand limit d
   least-some d found =
-      let says : Says demand 1 limit (Some d) = subst (Says demand 1 limit) found (searched demand limit 1) in
+      let says : Says demand 1 limit (Some d) = subst (Says demand 1 limit) found (search-says demand limit 1) in
       record { positive = says .0; within = omega arith; met = says .2; earlier = says .3 }
 
   -- where none is found, no length up to the limit is met
   pub least-none : least demand limit ≡ None → Never-met demand limit
-  least-none found e low high = subst (Says demand 1 limit) found (searched demand limit 1) e low (omega arith)
+  least-none found e low high = subst (Says demand 1 limit) found (search-says demand limit 1) e low (omega arith)
 
-  cases-of : (answer : Option ℕ) → least demand limit ≡ answer → ((d : ℕ) × (least demand limit ≡ Some d) × Least-met demand limit d) ⊎ ((least demand limit ≡ None) × Never-met demand limit)
+  -- the search by its answer
+  cases-of : (answer : Option ℕ) → least demand limit ≡ answer → Searched demand limit
   cases-of (Some d) found = inl (d, found, least-some d found)
   cases-of None found = inr (found, least-none found)
 
-  -- the search finds a least length, or none
-  pub least-cases : ((d : ℕ) × (least demand limit ≡ Some d) × Least-met demand limit d) ⊎ ((least demand limit ≡ None) × Never-met demand limit)
+  -- the search does one of the two
+  pub least-cases : Searched demand limit
   least-cases = cases-of (least demand limit) refl
 
   -- where no length up to the limit is met, none is found
@@ -94,7 +84,7 @@ module _ (demand : ℕ → ℕ) (limit : ℕ) where
       some .1 ∙ ap Some same
 
 -- a length from d on, below the demand at d, is not met if the demand never falls up to the limit
-pub skipped : (demand : ℕ → ℕ) (limit : ℕ) → ((d e : ℕ) → d ≤ e → e ≤ limit → demand d ≤ demand e) → (d e : ℕ) → d ≤ e → e < demand d → e ≤ limit → e < demand e
+pub skipped : (demand : ℕ → ℕ) (limit : ℕ) → Rises demand limit → (d e : ℕ) → d ≤ e → e < demand d → e ≤ limit → e < demand e
 skipped demand limit rises d e after below within = omega (arith, rises d e after within)
 
 -- a demand that is nowhere greater has a least length that is no longer

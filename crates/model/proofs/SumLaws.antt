@@ -8,16 +8,20 @@ use native.Mathlib.Omega.{arith}
 use Rattle.std.proofs.shelf.Tests.{cases-eq, false≢true}
 use Rattle.model.specs.Sums.{when, total, greatest}
 
--- what a test lets through is no more than the number itself
-pub when-le : (b : Bool) (n : ℕ) → when b n ≤ n
-when-le true n = omega arith
-when-le false n = omega arith
+-- what a test lets through is at most a number, if it is so where the test passes
+pub when-below : (b : Bool) (m n : ℕ) → (b ≡ true → m ≤ n) → when b m ≤ n
+when-below true m n below = below refl
+when-below false m n below = omega arith
 
 -- a test that implies another lets no more through, of a number that is no greater
 pub when-implies : (b c : Bool) (m n : ℕ) → (b ≡ true → c ≡ true) → (b ≡ true → m ≤ n) → when b m ≤ when c n
 when-implies true true m n passes le = le refl
 when-implies true false m n passes le = absurd (false≢true (passes refl))
 when-implies false c m n passes le = omega arith
+
+-- a test lets no more through of a number that is no greater
+pub when-rises : (b : Bool) (m n : ℕ) → m ≤ n → when b m ≤ when b n
+when-rises b m n le = when-implies b b m n (λ passes. passes) (λ _. le)
 
 -- the sum of nothing
 pub total-zero : (f : ℕ → ℕ) → total 0 f ≡ 0
@@ -44,6 +48,15 @@ pub total-le : (n : ℕ) (f g : ℕ → ℕ) → ((k : ℕ) → k < n → f k �
 unfolding total
 total-le zero f g each = omega arith
 total-le (suc n) f g each = omega (arith, total-le n f g (omega arith))
+
+-- a sum of no more terms, none of which is greater, is no greater
+pub total-longer : (n m : ℕ) (f g : ℕ → ℕ) → n ≤ m → ((k : ℕ) → k < n → f k ≤ g k) → total n f ≤ total m g
+unfolding total
+total-longer zero m f g longer each = omega arith
+total-longer (suc n) zero f g longer each = omega arith
+total-longer (suc n) (suc m) f g longer each =
+    ⊎-elim (λ same. rw (← same) (total-le (suc n) f g each))
+    (λ other. omega (arith, total-longer (suc n) m f g (omega arith) each)) (cases-eq n m)
 
 -- n terms of at most b sum to at most n * b
 pub total-bound : (n b : ℕ) (f : ℕ → ℕ) → ((k : ℕ) → k < n → f k ≤ b) → total n f ≤ n * b
@@ -72,3 +85,11 @@ greatest-longer n m f g longer each =
 -- the greatest of as many numbers, none of which is greater, is no greater
 pub greatest-le : (n : ℕ) (f g : ℕ → ℕ) → ((k : ℕ) → k < n → f k ≤ g k) → greatest n f ≤ greatest n g
 greatest-le n f g each = greatest-longer n n f g (omega arith) each
+
+-- where no term is greater, and one is less by some slack, the sum is less by it
+pub total-slack : (n i slack : ℕ) (f g : ℕ → ℕ) → i < n → ((k : ℕ) → k < n → f k ≤ g k) → f i + slack ≤ g i → total n f + slack ≤ total n g
+unfolding total
+total-slack zero i slack f g below each less = omega arith
+total-slack (suc n) i slack f g below each less =
+    ⊎-elim (λ last. let less-there : f n + slack ≤ g n = rw last less in omega (arith, total-le n f g (omega arith)))
+    (λ other. omega (arith, total-slack n i slack f g (omega arith) (omega arith) less)) (cases-eq n i)

@@ -3,7 +3,7 @@
 use mathlib.Core.Path.{_≡_}
 use mathlib.Core.Bool.{Bool, _&&_, cond}
 use mathlib.Core.List.{List}
-use Prim.Native.Nat.{ℕ, zero, suc}
+use Prim.Native.Nat.{ℕ, zero, suc, _≤_, _<_}
 use lib.Dec.{leb, ltb, eqb}
 use lib.ListN.{length, getD}
 use Rattle.std.specs.declared.option.Option.{Option}
@@ -80,3 +80,24 @@ module _ (t : Table) where
     pub by-verdict : found ≡ verdict
     pub by-window : (k : ℕ) → getD windows k 0 ≡ sheet-window k
     pub by-bound : (k : ℕ) → getD bounds k 0 ≡ sheet-bound k
+
+-- one to sixteen tasks, and the same number in every part
+pub record Sized (t : Table) : Type 0 where
+  pub some : 1 ≤ length (t .deadlines)
+  pub few : length (t .deadlines) ≤ most-tasks
+  pub arrivals : t .parts .arrivals .tasks ≡ length (t .deadlines)
+  pub order : t .parts .order .tasks ≡ length (t .deadlines)
+  pub sections : t .parts .sections .tasks ≡ length (t .deadlines)
+
+-- task k has a window, and its bound is within its deadline
+pub record Keeps (t : Table) (k : ℕ) : Type 0 where
+  -- the length of its window
+  pub ticks : ℕ
+  pub found : window (t .parts) k ≡ Some ticks
+  pub in-time : bound (t .parts) k ≤ getD (t .deadlines) k 0
+
+-- What it takes to be accepted: the size, allowed deadlines, and every task in time.
+pub record Accepts (t : Table) : Type 0 where
+  pub size : Sized t
+  pub deadlines : deadlines-fault t ≡ None
+  pub each : (k : ℕ) → k < length (t .deadlines) → Keeps t k
