@@ -4,7 +4,7 @@ ghost use Prim.Native.Nat.{_+_, _^_, _≤_};
 ghost use denote.Ref.{now as at-last};
 ghost use Rattle.model.specs.Analysis.{counted-work, others-work};
 ghost use Rattle.model.specs.Order.{within};
-ghost use Rattle.model.proofs.WorkLaws.{counted-work-rises, others-work-rises};
+ghost use Rattle.model.proofs.AnalysisLaws.{counted-work-rises, others-work-rises};
 ghost use Rattle.analysis.specs.Meant.{meant};
 use crate::parts::Parts;
 use model::arrivals::Arrivals;
@@ -22,9 +22,9 @@ pub struct Load<'t, R, O, S> {
 }
 
 pub impl<'t, R: Arrivals, O: Order, S: Sections> Demand for Load<'t, R, O, S> as LoadDemand {
-    ghost demand = { λ s d. s .blocked + counted-work (meant (R·Arrivals .meaning (at-last (s .parts .arrivals))) (O·Order .meaning (at-last (s .parts .order))) (S·Sections .meaning (at-last (s .parts .sections)))) (s .task) d };
+    ghost demand = { λ s d. s .blocked + counted-work (meant (R·Arrivals .meaning) (O·Order .meaning) (S·Sections .meaning) (s .parts)) (s .task) d };
 
-    ghost rises = { λ s. counted-work-rises (meant (R·Arrivals .meaning (at-last (s .parts .arrivals))) (O·Order .meaning (at-last (s .parts .order))) (S·Sections .meaning (at-last (s .parts .sections)))) (R·Arrivals .lawful (at-last (s .parts .arrivals))) (s .blocked) (s .task) };
+    ghost rises = { λ s. counted-work-rises (meant (R·Arrivals .meaning) (O·Order .meaning) (S·Sections .meaning) (s .parts)) (R·Arrivals .lawful (at-last (s .parts .arrivals))) (s .blocked) (s .task) };
 
     fn at(&self, length: u32) -> u64 {
         let mut ticks = u64::from(self.blocked);
@@ -48,9 +48,9 @@ pub struct Need<'t, R, O, S> {
 }
 
 pub impl<'t, R: Arrivals, O: Order, S: Sections> Demand for Need<'t, R, O, S> as NeedDemand {
-    ghost demand = { λ s d. s .own + others-work (meant (R·Arrivals .meaning (at-last (s .parts .arrivals))) (O·Order .meaning (at-last (s .parts .order))) (S·Sections .meaning (at-last (s .parts .sections)))) (s .task) (s .offset) d };
+    ghost demand = { λ s d. s .own + others-work (meant (R·Arrivals .meaning) (O·Order .meaning) (S·Sections .meaning) (s .parts)) (s .task) (s .offset) d };
 
-    ghost rises = { λ s. others-work-rises (meant (R·Arrivals .meaning (at-last (s .parts .arrivals))) (O·Order .meaning (at-last (s .parts .order))) (S·Sections .meaning (at-last (s .parts .sections)))) (R·Arrivals .lawful (at-last (s .parts .arrivals))) (s .own) (s .task) (s .offset) };
+    ghost rises = { λ s. others-work-rises (meant (R·Arrivals .meaning) (O·Order .meaning) (S·Sections .meaning) (s .parts)) (R·Arrivals .lawful (at-last (s .parts .arrivals))) (s .own) (s .task) (s .offset) };
 
     fn at(&self, length: u32) -> u64 {
         let mut ticks = self.own;

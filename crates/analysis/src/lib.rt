@@ -1,3 +1,4 @@
 // The busy-window analysis, written once over what the parts mean.
+mod bounds;
 mod demands;
 mod parts;

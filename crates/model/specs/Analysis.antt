@@ -29,10 +29,13 @@ module _ (m : Parts) where
   abbrev pub work : ℕ → ℕ → ℕ
   work o d = m .sections .cost o * m .arrivals .count o d
 
-  -- the most ticks for which a job of another task, started earlier, keeps the processor from a job of task i that is
-  -- ahead of it
+  -- the ticks for which a job of task l, started just before, can keep the processor from a job of task i that is ahead
+  -- of it: its longest stretch less the tick that it has had
+  abbrev pub blocking : ℕ → ℕ → ℕ
+  blocking i l = when (not (eqb l i) && m .order .blocks i l) (m .sections .longest l - 1)
+
   unfoldable pub blocked : ℕ → ℕ
-  blocked i = greatest tasks (λ l. when (not (eqb l i) && m .order .blocks i l) (m .sections .longest l - 1))
+  blocked i = greatest tasks (blocking i)
 
   -- the work of the counted tasks, i among them
   abbrev pub counted-work : ℕ → ℕ → ℕ

@@ -10,13 +10,13 @@ use Rattle.analysis.proofs.demands.LoadDemand.at.Needs.{then-counted, else-cou
 pub loop-other-holds : need.loop-other-holds
 loop-other-holds g c =
     let load = c .args .self .now in
-    let m = meant (g .R·Arrivals .meaning (load .parts .arrivals .now)) (g .O·Order .meaning (load .parts .order .now)) (g .S·Sections .meaning (load .parts .sections .now)) in
+    let m = meant (g .R·Arrivals .meaning) (g .O·Order .meaning) (g .S·Sections .meaning) (load .parts) in
     running-none (m .order .counted (load .task)) (λ o. work m o (c .args .length)) _ most-work _ (c .from-ticks .ensures)
 
 pub loop-other-again : need.loop-other-again
 loop-other-again g c =
     let load = c .args .self .now in
-    let m = meant (g .R·Arrivals .meaning (load .parts .arrivals .now)) (g .O·Order .meaning (load .parts .order .now)) (g .S·Sections .meaning (load .parts .sections .now)) in
+    let m = meant (g .R·Arrivals .meaning) (g .O·Order .meaning) (g .S·Sections .meaning) (load .parts) in
     let test = m .order .counted (load .task) in
     let term = λ (o : ℕ). work m o (c .args .length) in
     elim (c .if-counted .came) [

@@ -6,5 +6,5 @@ use Rattle.analysis.proofs.demands.LoadDemand.at.Given as given
 
 abbrev pub Inv-loop-other : given.InvT-loop-other
 Inv-loop-other g l =
-    let m = meant (g .R·Arrivals .meaning (l .self .parts .arrivals .now)) (g .O·Order .meaning (l .self .parts .order .now)) (g .S·Sections .meaning (l .self .parts .sections .now)) in
+    let m = meant (g .R·Arrivals .meaning) (g .O·Order .meaning) (g .S·Sections .meaning) (l .self .parts) in
     Running (m .order .counted (l .self .task)) (λ o. work m o (l .length)) (l .self .blocked) most-work (l .other) (l .ticks)

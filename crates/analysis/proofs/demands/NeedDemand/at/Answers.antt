@@ -14,13 +14,13 @@ use Rattle.analysis.proofs.demands.NeedDemand.at.Needs.{then-other-self, else-
 pub loop-other-holds : need.loop-other-holds
 loop-other-holds g c =
     let job = c .args .self .now in
-    let m = meant (g .R·Arrivals .meaning (job .parts .arrivals .now)) (g .O·Order .meaning (job .parts .order .now)) (g .S·Sections .meaning (job .parts .sections .now)) in
+    let m = meant (g .R·Arrivals .meaning) (g .O·Order .meaning) (g .S·Sections .meaning) (job .parts) in
     running-none (λ o. not (eqb o (job .task))) (λ o. work m o (within (m .order .reach (job .task) o (job .offset)) (c .args .length))) _ most-work _ refl
 
 pub loop-other-again : need.loop-other-again
 loop-other-again g c =
     let job = c .args .self .now in
-    let m = meant (g .R·Arrivals .meaning (job .parts .arrivals .now)) (g .O·Order .meaning (job .parts .order .now)) (g .S·Sections .meaning (job .parts .sections .now)) in
+    let m = meant (g .R·Arrivals .meaning) (g .O·Order .meaning) (g .S·Sections .meaning) (job .parts) in
     let test = λ (o : ℕ). not (eqb o (job .task)) in
     let term = λ (o : ℕ). work m o (within (m .order .reach (job .task) o (job .offset)) (c .args .length)) in
     elim (c .if-other-self .came) [

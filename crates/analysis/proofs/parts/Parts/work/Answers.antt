@@ -9,7 +9,7 @@ use Rattle.analysis.proofs.parts.Parts.work.Given as given
 use Rattle.analysis.proofs.parts.Parts.work.Needs as need
 
 -- what is returned, and how large it can be
-value : (g : given.Over) (c : need.After-count g) → c .from .result * c .count .result ≡ work (meant (g .R·Arrivals .meaning (c .args .self .arrivals .now)) (g .O·Order .meaning (c .args .self .order .now)) (g .S·Sections .meaning (c .args .self .sections .now))) (c .args .task) (c .args .length)
+value : (g : given.Over) (c : need.After-count g) → c .from .result * c .count .result ≡ work (meant (g .R·Arrivals .meaning) (g .O·Order .meaning) (g .S·Sections .meaning) (c .args .self)) (c .args .task) (c .args .length)
 value g c = cc
 
 small : (g : given.Over) (c : need.After-count g) → c .from .result * c .count .result ≤ most-work
