@@ -1,1 +1,3 @@
 pub mod Meant
+pub mod Drafted
+pub mod Sheets

@@ -4,3 +4,4 @@ pub mod VerdictLaws
 pub mod WorkLaws
 pub mod AnalysisLaws
 pub mod LighterLaws
+pub mod JudgedLaws

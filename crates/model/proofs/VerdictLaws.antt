@@ -2,7 +2,8 @@
 use mathlib.Core.Path.{_≡_, refl}
 use mathlib.Core.Bool.{Bool, true, false, cond}
 use mathlib.Core.Logic.{⊎-elim}
-use Prim.Native.Nat.{ℕ, zero, suc, _+_, _≤_, _<_}
+use Prim.Native.Nat.{ℕ, zero, suc, _+_, _-_, _≤_, _<_}
+use native.Mathlib.Nat.{add-zero, add-assoc}
 use native.Mathlib.Numerals.{add-one}
 use native.Mathlib.Omega.{arith}
 use lib.ListN.{length, getD}
@@ -20,6 +21,18 @@ use Rattle.model.specs.declared.fault.Fault.{Fault}
 pub or-else-none : {X : Type 0} (first later : Option X) → (first or-else later) ≡ None → (first ≡ None) × (later ≡ None)
 or-else-none (Some x) later none = (none, cc)
 or-else-none None later none = (refl, none)
+
+-- the first of three is the first of the first two, if there is any
+or-else-early : {X : Type 0} (first second later : Option X) (x : X) → (first or-else second) ≡ Some x → (first or-else (second or-else later)) ≡ Some x
+or-else-early (Some y) second later x found = found
+or-else-early None (Some y) later x found = found
+or-else-early None None later x found = absurd (let z : _≡_ {A = ℕ} 0 1 = cc in omega arith)
+
+-- and else the third
+or-else-late : {X : Type 0} (first second later : Option X) → (first or-else second) ≡ None → (first or-else (second or-else later)) ≡ later
+or-else-late (Some y) second later none = absurd (let z : _≡_ {A = ℕ} 0 1 = cc in omega arith)
+or-else-late None (Some y) later none = absurd (let z : _≡_ {A = ℕ} 0 1 = cc in omega arith)
+or-else-late None None later none = refl
 
 -- a choice that answers none where it could answer some
 pub cond-none : {X : Type 0} (b : Bool) (x : X) → cond b None (Some x) ≡ None → b ≡ true
@@ -55,7 +68,34 @@ unfolding first-fault
 none-first-fault zero at none = refl
 none-first-fault (suc n) at none = rw (none-first-fault n at (λ k below. none k (omega arith))) (none n (omega arith))
 
+-- the first fault stays the first as tasks come behind it
+first-fault-stays : (n m : ℕ) (at : ℕ → Option Fault) (f : Fault) → first-fault n at ≡ Some f → first-fault (n + m) at ≡ Some f
+first-fault-stays n zero at f found = rw add-zero found
+first-fault-stays n (suc m) at f found =
+    rw (← add-one m, ← add-assoc n m 1, first-fault-more (n + m) at, first-fault-stays n m at f found)
+
+-- a fault behind tasks that have none is the first
+pub first-fault-found : (n k : ℕ) (at : ℕ → Option Fault) (f : Fault) → k < n → first-fault k at ≡ None → at k ≡ Some f → first-fault n at ≡ Some f
+first-fault-found n k at f below before here =
+    let found : first-fault (k + 1) at ≡ Some f = rw (first-fault-more k at, before, here) in
+    let length : k + 1 + (n - (k + 1)) ≡ n = omega arith in
+    rw length at (first-fault-stays (k + 1) (n - (k + 1)) at f found)
+
+-- one task more without a fault
+pub first-fault-clear : (k : ℕ) (at : ℕ → Option Fault) → first-fault k at ≡ None → at k ≡ None → first-fault (k + 1) at ≡ None
+first-fault-clear k at before here = rw (first-fault-more k at, before, here)
+
 module _ (t : Table) where
+  -- a fault of the size or of a deadline is the verdict
+  pub verdict-early : (f : Fault) → (size-fault t or-else deadlines-fault t) ≡ Some f → verdict t ≡ Some f
+  unfolding verdict
+  verdict-early f found = or-else-early (size-fault t) (deadlines-fault t) _ f found
+
+  -- and else the verdict is the first fault of a task
+  pub verdict-tasks : (size-fault t or-else deadlines-fault t) ≡ None → verdict t ≡ first-fault (length (t .deadlines)) (task-fault t)
+  unfolding verdict
+  verdict-tasks none = or-else-late (size-fault t) (deadlines-fault t) _ none
+
   -- the test of the size says that the numbers of tasks agree
   pub sized-agrees : sized t ≡ true → Sized t
   sized-agrees so =

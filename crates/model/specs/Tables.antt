@@ -38,6 +38,15 @@ unfoldable pub first-fault : ℕ → (ℕ → Option Fault) → Option Fault
 first-fault zero at = None
 first-fault (suc n) at = first-fault n at or-else at n
 
+-- why task k misses a deadline: it has no window, or its bound is above the deadline
+abbrev pub missed : Parts → ℕ → ℕ → Option Fault
+missed m k deadline =
+    from-row (window m k) (Some (fault Overload table k)) (λ _. cond (leb (bound m k) deadline) None (Some (fault Late table k)))
+
+-- a window as it stands on the sheet
+abbrev pub window-length : Parts → ℕ → ℕ
+window-length m k = from-row (window m k) 0 (λ w. w)
+
 module _ (t : Table) where
   -- one to sixteen tasks, the same in every part
   abbrev pub sized : Bool
@@ -52,11 +61,8 @@ module _ (t : Table) where
   abbrev pub deadlines-fault : Option Fault
   deadlines-fault = rows-fault (outside 1 most-deadline) table 0 (t .deadlines)
 
-  -- no window, or a bound above the deadline
   abbrev pub task-fault : ℕ → Option Fault
-  task-fault k =
-      from-row (window (t .parts) k) (Some (fault Overload table k))
-      (λ _. cond (leb (bound (t .parts) k) (getD (t .deadlines) k 0)) None (Some (fault Late table k)))
+  task-fault k = missed (t .parts) k (getD (t .deadlines) k 0)
 
   -- The verdict: the first fault, of the size, then of the deadlines, then of the tasks one by one.
   unfoldable pub verdict : Option Fault
@@ -70,7 +76,7 @@ module _ (t : Table) where
   on-sheet f k = from-row verdict (when (ltb k (length (t .deadlines))) (f k)) (λ _. 0)
 
   abbrev pub sheet-window : ℕ → ℕ
-  sheet-window = on-sheet (λ k. from-row (window (t .parts) k) 0 (λ w. w))
+  sheet-window = on-sheet (window-length (t .parts))
 
   abbrev pub sheet-bound : ℕ → ℕ
   sheet-bound = on-sheet (bound (t .parts))
