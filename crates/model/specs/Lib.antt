@@ -1,4 +1,5 @@
 pub mod Faults
+pub mod Shown
 pub mod Arrivals
 pub mod Order
 pub mod Sections

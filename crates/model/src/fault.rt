@@ -1,6 +1,9 @@
 // Why a call refuses: number, part and task.
 ghost use mathlib.Core.Path.{_≡_};
-ghost use Rattle.model.specs.Faults.{number, part-number};
+ghost use Rattle.std.specs.declared.option.Option.the-variants.{Some};
+ghost use Rattle.model.specs.Faults.{number, word, part-number, part-word};
+ghost use Rattle.model.specs.Shown.{shown-fault};
+use std::fmt;
 
 #[derive(Clone, Copy, PartialEq, Eq, Debug)]
 pub enum Refusal {
@@ -40,6 +43,18 @@ impl Refusal {
     {
         self as u8
     }
+
+    pub fn word(self) -> &'static str
+        ensures { λ r. ⌜ now r ≡ word self ⌝ }
+    {
+        match self {
+            Refusal::Size => "size",
+            Refusal::Range => "range",
+            Refusal::Order => "order",
+            Refusal::Overload => "overload",
+            Refusal::Late => "late",
+        }
+    }
 }
 
 impl Part {
@@ -47,5 +62,29 @@ impl Part {
         ensures { λ r. ⌜ r ≡ part-number self ⌝ }
     {
         self as u8
+    }
+
+    pub fn word(self) -> &'static str
+        ensures { λ r. ⌜ now r ≡ part-word self ⌝ }
+    {
+        match self {
+            Part::Arrivals => "arrivals",
+            Part::Order => "order",
+            Part::Sections => "sections",
+            Part::Table => "table",
+        }
+    }
+}
+
+pub impl fmt::Display for Fault as FaultDisplay {
+    ghost shown = { λ f. Some (shown-fault f) };
+
+    fn fmt<W: fmt::Write>(&self, f: &mut fmt::Formatter<W>) -> fmt::Result {
+        let number = self.refusal.number();
+        let word = self.refusal.word();
+        let part = self.part.number();
+        let name = self.part.word();
+        let task = self.task;
+        write!(f, "{number} {word}, part {part} {name}, task {task}")
     }
 }
