@@ -1,5 +1,5 @@
 pub mod Running
 pub mod Peaks
-pub mod Responses
+pub mod Searched
 pub mod Columns
 pub mod Verdicts

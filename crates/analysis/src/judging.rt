@@ -4,6 +4,7 @@ ghost use Rattle.std.specs.Results.{Cases};
 ghost use Rattle.std.specs.declared.option.Option.the-variants.{Some, None};
 ghost use Rattle.model.specs.Faults.{_or-else_};
 ghost use Rattle.model.specs.Lighter.{No-worse-than-heavier};
+ghost use Rattle.model.specs.Sealed.{Sealed-sheet};
 ghost use Rattle.model.specs.Tables.{size-fault, deadlines-fault, verdict, Accepts, Judged-so};
 ghost use Rattle.analysis.specs.Drafted.{drafted};
 use crate::draft::Draft;
@@ -30,6 +31,7 @@ impl<R: Arrivals, O: Order, S: Sections> Draft<R, O, S> {
         ensures same { λ r. ⌜ r .draft ≡ self ⌝ }
         ensures sheet { λ r. ⌜ Judged-so (drafted (R·Arrivals .meaning) (O·Order .meaning) (S·Sections .meaning) self) (r .verdict) (r .sheet .windows) (r .sheet .bounds) ⌝ }
         ensures accepted { λ r. ⌜ (r .verdict ≡ None → Accepts (drafted (R·Arrivals .meaning) (O·Order .meaning) (S·Sections .meaning) self)) × (Accepts (drafted (R·Arrivals .meaning) (O·Order .meaning) (S·Sections .meaning) self) → r .verdict ≡ None) ⌝ }
+        ensures sealed { λ r. ⌜ Sealed-sheet (drafted (R·Arrivals .meaning) (O·Order .meaning) (S·Sections .meaning) self) (r .verdict) (r .sheet .windows) (r .sheet .bounds) ⌝ }
         ensures lighter { λ r. ⌜ No-worse-than-heavier (drafted (R·Arrivals .meaning) (O·Order .meaning) (S·Sections .meaning) self) (r .verdict) (r .sheet .bounds) ⌝ }
     {
         match self.sheet() {

@@ -1,16 +1,20 @@
--- What follows from what a judged table holds: when it is accepted, and that it is no worse than a heavier one.
+-- What follows from what a judged table holds: when it is accepted, what its sheet then says, and that it is no worse
+-- than a heavier one.
 use mathlib.Core.Path.{_≡_, refl, sym, _∙_}
 use mathlib.Core.List.{List}
 use Prim.Native.Nat.{ℕ, zero, suc, _<_}
+use native.Mathlib.Omega.{arith}
 use lib.ListN.{length, getD, replicate}
 use Rattle.std.specs.declared.option.Option.{Option}
 use Rattle.std.specs.declared.option.Option.the-variants.{Some, None}
 use Rattle.std.proofs.shelf.Tests.{lt-ltb}
 use Rattle.model.specs.Analysis.{bound}
 use Rattle.model.specs.Lighter.{No-worse-than-heavier}
+use Rattle.model.specs.Sealed.{Sealed-sheet}
 use Rattle.model.specs.Tables.{Table, Lawful, verdict, Accepts, on-sheet, window-length, Judged-so}
 use Rattle.model.specs.declared.fault.Fault.{Fault}
 use Rattle.model.proofs.LighterLaws.{lighter-accepted}
+use Rattle.model.proofs.SealedLaws.{sealed}
 use Rattle.model.proofs.VerdictLaws.{accepted-says, says-accepted}
 
 -- a blank column has 0 everywhere
@@ -48,3 +52,14 @@ module _ (t : Table) where
         let both = lighter-accepted t heavy lawful heavy-lawful accepted lighter in
         (held .by-verdict ∙ both .0,
          λ k has. rw (held .by-bound k ∙ on-accepted (bound (t .parts)) k (both .0) has) (both .1 k has))
+
+    -- the sheet of an accepted table says what it should of each task
+    pub judged-sealed : Lawful (t .parts) → Sealed-sheet t found windows bounds
+    judged-sealed lawful none k has =
+        let accepted : verdict t ≡ None = sym (held .by-verdict) ∙ none in
+        let so = accepted-says t accepted in
+        let kept = so .each k has in
+        let window-so : getD windows k 0 ≡ kept .ticks = held .by-window k ∙ on-accepted (window-length (t .parts)) k accepted has ∙ rw (kept .found) in
+        let bound-so : getD bounds k 0 ≡ bound (t .parts) k = held .by-bound k ∙ on-accepted (bound (t .parts)) k accepted has in
+        rw (window-so, bound-so)
+        (sealed (t .parts) lawful (omega arith) (omega arith) k (kept .ticks) (omega arith) (kept .found))

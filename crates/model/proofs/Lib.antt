@@ -4,4 +4,6 @@ pub mod VerdictLaws
 pub mod WorkLaws
 pub mod AnalysisLaws
 pub mod LighterLaws
+pub mod ResponseLaws
+pub mod SealedLaws
 pub mod JudgedLaws

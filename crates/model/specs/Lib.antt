@@ -7,4 +7,5 @@ pub mod Rows
 pub mod Sums
 pub mod Analysis
 pub mod Tables
+pub mod Sealed
 pub mod Lighter

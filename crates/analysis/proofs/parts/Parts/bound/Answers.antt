@@ -7,7 +7,7 @@ use Rattle.model.proofs.AnalysisLaws.{window-least}
 use Rattle.model.proofs.SumLaws.{greatest-zero}
 use Rattle.analysis.specs.Meant.{meant}
 use Rattle.analysis.proofs.Peaks.{peak-more}
-use Rattle.analysis.proofs.Responses.{bound-of-window}
+use Rattle.model.proofs.ResponseLaws.{bound-greatest}
 use Rattle.analysis.proofs.parts.Parts.bound.Needs as need
 
 pub loop-offset-holds : need.loop-offset-holds
@@ -27,4 +27,4 @@ returns g c =
     let m = meant (g .R·Arrivals .meaning) (g .O·Order .meaning) (g .S·Sections .meaning) (c .args .self) in
     c .loop-offset .inv
     ∙ ap (λ n. greatest n (response m (c .args .task))) (omega arith)
-    ∙ sym (bound-of-window m (c .args .task) (c .args .offsets) (c .pre))
+    ∙ sym (bound-greatest m (c .args .task) (c .args .offsets) (c .pre))

@@ -3,7 +3,7 @@ use Prim.Native.Nat.{_+_}
 use Rattle.model.specs.Analysis.{ready, need as needed, own-need, others-work, longest-window}
 use Rattle.model.specs.Sums.{least}
 use Rattle.analysis.specs.Meant.{meant}
-use Rattle.analysis.proofs.Responses.{found-within}
+use Rattle.analysis.proofs.Searched.{found-within}
 use Rattle.analysis.proofs.parts.Parts.ready.Needs as need
 
 pub returns : need.returns

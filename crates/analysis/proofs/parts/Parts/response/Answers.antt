@@ -1,6 +1,6 @@
 use mathlib.Core.Path.{sym, ap, _∙_}
 use Prim.Native.Nat.{_+_, _-_}
-use Rattle.analysis.proofs.Responses.{response-later, response-passed, response-never}
+use Rattle.model.proofs.ResponseLaws.{response-later, response-passed, response-never}
 use Rattle.analysis.proofs.parts.Parts.response.Needs as need
 
 pub returns-in-Some : need.returns-in-Some
