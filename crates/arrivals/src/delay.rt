@@ -12,6 +12,12 @@ use rows::rule::Limits;
 use rows::rule::LimitsRule;
 use rows::rule::making_fault;
 
+// No delay is allowed too.
+const LIMITS: Limits = Limits {
+    low: 0,
+    high: 1_000_000,
+};
+
 // How late the releases of each task can come.
 #[derive(Clone, Copy)]
 pub struct Delays {
@@ -25,7 +31,7 @@ impl Delays {
             (λ s. (s .ticks ≡ now (ticks .entry)) × (delays-fault (now (ticks .entry)) ≡ None))
             (λ f. delays-fault (now (ticks .entry)) ≡ Some f) ⌝ }
     {
-        match making_fault(&Limits { low: 0, high: 1_000_000 }, Part::Arrivals, ticks) {
+        match making_fault(&LIMITS, Part::Arrivals, ticks) {
             None => Ok(Delays { ticks: *ticks }),
             Some(fault) => Err(fault),
         }
@@ -70,6 +76,7 @@ pub impl<L: Arrivals> Arrivals for Delay<L> as DelayArrivals {
         if length == 0 {
             return 0;
         }
-        self.below.count(task, length.saturating_add(self.delays.of(task)))
+        self.below
+            .count(task, length.saturating_add(self.delays.of(task)))
     }
 }

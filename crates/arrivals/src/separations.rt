@@ -14,6 +14,12 @@ use rows::per_task::PerTask;
 use rows::rule::Limits;
 use rows::rule::LimitsRule;
 
+// A separation is at least one tick.
+const LIMITS: Limits = Limits {
+    low: 1,
+    high: 1_000_000,
+};
+
 #[derive(Drop)]
 pub struct Separations {
     rows: PerTask<u32>,
@@ -28,7 +34,7 @@ impl Separations {
             (λ s. (separated (kept (s .rows)) ≡ separated (now (separations .entry))) × (separations-fault (now (separations .entry)) ≡ None))
             (λ f. separations-fault (now (separations .entry)) ≡ Some f) ⌝ }
     {
-        let rows = PerTask::checked(&Limits { low: 1, high: 1_000_000 }, Part::Arrivals, separations)?;
+        let rows = PerTask::checked(&LIMITS, Part::Arrivals, separations)?;
         Ok(Separations { rows })
     }
 }

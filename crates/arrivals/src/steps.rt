@@ -31,9 +31,9 @@ impl<'a> Steps<'a> {
     pub fn new(numbers: &'a [u32]) -> Result<Steps<'a>, Fault>
         ensures { λ r. ⌜ Cases r
             (λ s. (now (s .numbers) ≡ now (numbers .entry))
-                × (steps-fault (now (numbers .entry)) ≡ None)
-                × (stepped (now (numbers .entry)) .tasks ≡ length (now (numbers .entry)) / 9)
-                × Plain-steps (now (numbers .entry)))
+            × (steps-fault (now (numbers .entry)) ≡ None)
+            × (stepped (now (numbers .entry)) .tasks ≡ length (now (numbers .entry)) / 9)
+            × Plain-steps (now (numbers .entry)))
             (λ f. steps-fault (now (numbers .entry)) ≡ Some f) ⌝ }
     {
         match first_fault(numbers) {
@@ -67,11 +67,19 @@ fn first_fault(numbers: &[u32]) -> Option<Fault>
 {
     let tasks = numbers.len() / ROW_WIDTH;
     if numbers.len() % ROW_WIDTH != 0 || tasks < 1 || tasks > MOST_TASKS {
-        return Some(Fault { refusal: Refusal::Size, part: Part::Arrivals, task: NO_TASK });
+        return Some(Fault {
+            refusal: Refusal::Size,
+            part: Part::Arrivals,
+            task: NO_TASK,
+        });
     }
     for task in 0..tasks as u8 {
         if let Some(refusal) = refused(row_of(numbers, task)) {
-            return Some(Fault { refusal, part: Part::Arrivals, task });
+            return Some(Fault {
+                refusal,
+                part: Part::Arrivals,
+                task,
+            });
         }
     }
     None

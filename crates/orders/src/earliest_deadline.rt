@@ -15,6 +15,12 @@ use rows::per_task::PerTask;
 use rows::rule::Limits;
 use rows::rule::LimitsRule;
 
+// A relative deadline is at least one tick.
+const LIMITS: Limits = Limits {
+    low: 1,
+    high: 100_000,
+};
+
 #[derive(Drop)]
 pub struct EarliestDeadline {
     rows: PerTask<u32>,
@@ -27,7 +33,7 @@ impl EarliestDeadline {
             (λ s. (earliest-deadline (kept (s .rows)) ≡ earliest-deadline (now (deadlines .entry))) × (relative-deadlines-fault (now (deadlines .entry)) ≡ None))
             (λ f. relative-deadlines-fault (now (deadlines .entry)) ≡ Some f) ⌝ }
     {
-        let rows = PerTask::checked(&Limits { low: 1, high: 100_000 }, Part::Order, deadlines)?;
+        let rows = PerTask::checked(&LIMITS, Part::Order, deadlines)?;
         Ok(EarliestDeadline { rows })
     }
 }
@@ -50,7 +56,10 @@ pub impl Order for EarliestDeadline as EarliestDeadlineOrder {
 
     fn reach(&self, task: u8, other: u8, offset: u32) -> Reach {
         match (self.rows.get(task), self.rows.get(other)) {
-            (Some(own), Some(other)) => Reach::Ticks((due(offset, own) + 1).saturating_sub(u64::from(other))),
+            (Some(own), Some(other)) => {
+                let after_due = due(offset, own) + 1;
+                Reach::Ticks(after_due.saturating_sub(u64::from(other)))
+            }
             _ => Reach::Ticks(0),
         }
     }

@@ -6,6 +6,7 @@ ghost use Rattle.kinds.specs.SectionKinds.{floating-sections, floating-refused,
 ghost use Rattle.kinds.proofs.SectionLaws.{floating-lawful};
 ghost use Rattle.rows.specs.Kept.{kept};
 ghost use Rattle.sections.specs.Unfaulted.{Unfaulted, no-fault};
+use crate::costs::MOST_COST;
 use kinds::FloatingTask;
 use model::fault::Fault;
 use model::fault::Part;
@@ -21,7 +22,7 @@ impl RowRule<FloatingTask> for FloatingRow as FloatingRowRule {
     ghost refuses = { λ s row. floating-refused row };
 
     fn refused(&self, row: &FloatingTask) -> Option<Refusal> {
-        if row.cost < 1 || row.cost > 100_000 || row.longest < 1 || row.longest > row.cost {
+        if row.cost < 1 || row.cost > MOST_COST || row.longest < 1 || row.longest > row.cost {
             Some(Refusal::Range)
         } else {
             None

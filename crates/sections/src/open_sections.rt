@@ -6,11 +6,11 @@ ghost use Rattle.kinds.specs.SectionKinds.{open-sections, costs-fault};
 ghost use Rattle.kinds.proofs.SectionLaws.{open-lawful};
 ghost use Rattle.rows.specs.Kept.{kept};
 ghost use Rattle.sections.specs.Unfaulted.{Unfaulted, no-fault};
+use crate::costs::COSTS;
 use model::fault::Fault;
 use model::fault::Part;
 use model::sections::Sections;
 use rows::per_task::PerTask;
-use rows::rule::Limits;
 use rows::rule::LimitsRule;
 
 #[derive(Drop)]
@@ -27,7 +27,7 @@ impl OpenSections {
             (λ s. (open-sections (kept (s .rows)) ≡ open-sections (now (costs .entry))) × (costs-fault (now (costs .entry)) ≡ None))
             (λ f. costs-fault (now (costs .entry)) ≡ Some f) ⌝ }
     {
-        let rows = PerTask::checked(&Limits { low: 1, high: 100_000 }, Part::Sections, costs)?;
+        let rows = PerTask::checked(&COSTS, Part::Sections, costs)?;
         Ok(OpenSections { rows })
     }
 }
@@ -42,10 +42,7 @@ pub impl Sections for OpenSections as OpenSectionsSections {
     }
 
     fn cost(&self, task: u8) -> u32 {
-        match self.rows.get(task) {
-            Some(cost) => cost,
-            None => 0,
-        }
+        self.rows.get(task).unwrap_or(0)
     }
 
     fn longest(&self, task: u8) -> u32 {

@@ -6,11 +6,11 @@ ghost use Rattle.kinds.specs.SectionKinds.{shut-sections, costs-fault};
 ghost use Rattle.kinds.proofs.SectionLaws.{shut-lawful};
 ghost use Rattle.rows.specs.Kept.{kept};
 ghost use Rattle.sections.specs.Unfaulted.{Unfaulted, no-fault};
+use crate::costs::COSTS;
 use model::fault::Fault;
 use model::fault::Part;
 use model::sections::Sections;
 use rows::per_task::PerTask;
-use rows::rule::Limits;
 use rows::rule::LimitsRule;
 
 #[derive(Drop)]
@@ -27,7 +27,7 @@ impl ShutSections {
             (λ s. (shut-sections (kept (s .rows)) ≡ shut-sections (now (costs .entry))) × (costs-fault (now (costs .entry)) ≡ None))
             (λ f. costs-fault (now (costs .entry)) ≡ Some f) ⌝ }
     {
-        let rows = PerTask::checked(&Limits { low: 1, high: 100_000 }, Part::Sections, costs)?;
+        let rows = PerTask::checked(&COSTS, Part::Sections, costs)?;
         Ok(ShutSections { rows })
     }
 }
@@ -42,25 +42,16 @@ pub impl Sections for ShutSections as ShutSectionsSections {
     }
 
     fn cost(&self, task: u8) -> u32 {
-        match self.rows.get(task) {
-            Some(cost) => cost,
-            None => 0,
-        }
+        self.rows.get(task).unwrap_or(0)
     }
 
     // Nothing interrupts a job, so that all of it is one stretch, and its own end.
     fn longest(&self, task: u8) -> u32 {
-        match self.rows.get(task) {
-            Some(cost) => cost,
-            None => 0,
-        }
+        self.rows.get(task).unwrap_or(0)
     }
 
     fn tail(&self, task: u8) -> u32 {
-        match self.rows.get(task) {
-            Some(cost) => cost,
-            None => 0,
-        }
+        self.rows.get(task).unwrap_or(0)
     }
 
     fn may_hold(&self, task: u8, received: u32, since: u32, _openings: u32) -> bool {

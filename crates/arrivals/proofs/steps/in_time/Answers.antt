@@ -17,8 +17,9 @@ loop-tick-again c =
     let later = at-most (c .args .most) (drop (i + 1) xs) in
     let step : at-most (c .args .most) (drop i xs) ≡ cond (leb (getD xs i 0) (c .args .most)) (suc later) later = at-drop-more (at-most (c .args .most)) xs i 0 (c .loop-tick-test .taken) in
     elim (c .if-tick-most .came) [
-      then-tick-most w ↦ (omega (arith, w .count-is), grind (arith, tells))
-    | else-tick-most w ↦ (omega (arith, w .count-is), grind (arith, tells)) ]
+      | then-tick-most w ↦ (omega (arith, w .count-is), grind (arith, tells))
+      | else-tick-most w ↦ (omega (arith, w .count-is), grind (arith, tells))
+    ]
 
 pub returns : need.returns
 returns c =

@@ -4,11 +4,11 @@ use mathlib.Core.List.{List}
 use Prim.Native.Nat.{ℕ, _+_, _-_, _*_, _/_, _%_, _≤_, max}
 use native.Mathlib.Omega.{arith}
 use native.Mathlib.Nat.{div-le-self}
-use lib.ListN.{length, drop, getD, length-drop}
+use lib.ListN.{length, drop, getD, length-take, length-drop}
 use Rattle.std.proofs.shelf.Bits.{mul-le}
 use Rattle.std.proofs.shelf.Lists.{take-rest}
 use Rattle.kinds.specs.ArrivalKinds.{used, at-most, steps-count}
-use Rattle.kinds.proofs.ArrivalLaws.{used-within, in-time-within}
+use Rattle.kinds.proofs.ArrivalLaws.{in-time-within}
 use Rattle.arrivals.proofs.steps.releases.Needs as need
 
 -- the count as the code puts it together
@@ -20,8 +20,7 @@ add-entries c =
     let row = c .args .row .now in
     let entries = c .used-entries .result .now in
     let whole = c .from-whole .result in
-    let read = ap length (c .used-entries .ensures ∙ ap used (take-rest row 1)) in
-    let few : length entries ≤ 8 = omega (arith, used-within (drop 1 row), length-drop 1 row, c .pre) in
+    let few : length entries ≤ 8 = omega (arith, length-take (length row - 1) (drop 1 row), length-drop 1 row) in
     let short : whole ≤ c .args .ticks = omega (arith, div-le-self (c .args .ticks - 1) (c .max-repeat .result)) in
     let product = mul-le (length entries) whole 8 (c .args .ticks) few short in
     let rest : c .in-time .result ≤ 8 = omega (arith, in-time-within ((c .args .ticks - 1) % c .max-repeat .result + 1) entries) in
@@ -31,5 +30,5 @@ pub returns : need.returns
 returns c =
     put-together (c .args .row .now) (c .args .ticks) (c .max-repeat .result) (c .used-entries .result .now) (c .max .result)
     (omega arith)
-    (c .used-entries .ensures ∙ ap used (take-rest (c .args .row .now) 1))
+    (c .used-entries .ensures .value ∙ ap used (take-rest (c .args .row .now) 1))
     (omega (arith, ap (λ n. length (c .used-entries .result .now) * n) (c .from-whole .ensures)))

@@ -4,7 +4,7 @@ use mathlib.Core.List.{List, [], _∷_}
 use Prim.Native.Nat.{ℕ, zero, suc, _<_}
 use native.Mathlib.Omega.{arith}
 use lib.ListN.{take, getD}
-use Rattle.std.proofs.shelf.Lists.{getD-past, take-all}
+use Rattle.std.proofs.shelf.Lists.{getD-past, take-all, places}
 use Rattle.kinds.specs.ArrivalKinds.{used}
 use Rattle.kinds.proofs.numbers.used.Needs as need
 
@@ -19,10 +19,14 @@ used-front (suc x ∷ xs) (suc n) before here = ap (λ ys. suc x ∷ ys) (used-f
 
 pub returns-then-number-eq0 : need.returns-then-number-eq0
 returns-then-number-eq0 c =
-    let front = used-front (c .args .row .now) (c .loop-place .place) (c .loop-place .inv) (c .if-number-eq0 .taken) in search needs
+    let front = used-front (c .args .row .now) (c .loop-place .place) (c .loop-place .inv) (c .if-number-eq0 .taken) in
+    record { value = search needs; within = search (needs, places) }
 
 pub returns : need.returns
 returns c =
     let row = c .args .row .now in
     let past = c .loop-place-test .left in
-    sym (take-all (c .loop-place .place) row past) ∙ used-front row (c .loop-place .place) (c .loop-place .inv) (getD-past row (c .loop-place .place) 0 past)
+    record {
+      value = sym (take-all (c .loop-place .place) row past) ∙ used-front row (c .loop-place .place) (c .loop-place .inv) (getD-past row (c .loop-place .place) 0 past);
+      within = search needs;
+    }
