@@ -1,0 +1,4 @@
+// The listed kinds of arrivals: how often jobs come.
+pub mod delay;
+pub mod separations;
+pub mod steps;

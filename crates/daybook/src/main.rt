@@ -1,0 +1,48 @@
+// The sealing sheet of the built-in table.
+ghost use mathlib.Core.Path.{_≡_};
+use analysis::draft::Draft;
+use analysis::judged::Judged;
+use arrivals::separations::Separations;
+use arrivals::separations::SeparationsArrivals;
+use model::arrivals::Arrivals;
+use model::fault::Fault;
+use model::fault::FaultDisplay;
+use model::order::Order;
+use model::sections::Sections;
+use orders::earliest_deadline::EarliestDeadline;
+use orders::earliest_deadline::EarliestDeadlineOrder;
+use sections::open_sections::OpenSections;
+use sections::open_sections::OpenSectionsSections;
+use std::error::AnyError;
+use std::io;
+
+type BuiltIn = Judged<Separations, EarliestDeadline, OpenSections>;
+
+fn main(rt: LibcRuntime) -> Result<(), AnyError> {
+    let deadlines = vec![in rt.alloc(); 4, 7]?;
+    match built_in(deadlines) {
+        Ok(table) => print_sheet(&rt, &table)?,
+        Err(fault) => println!(rt, "refused: {fault}")?,
+    }
+    Ok(())
+}
+
+// Two tasks under earliest deadline first, fully preemptive.
+fn built_in(deadlines: Vec<u32>) -> Result<BuiltIn, Fault> {
+    let arrivals = Separations::new(&[4, 12])?;
+    let order = EarliestDeadline::new(deadlines.as_slice())?;
+    let sections = OpenSections::new(&[2, 3])?;
+    Ok(Draft::new(deadlines, arrivals, order, sections).judge())
+}
+
+fn print_sheet<R, O, S>(rt: &LibcRuntime, table: &Judged<R, O, S>) -> io::Result<()> {
+    if let Some(fault) = table.verdict() {
+        return println!(rt, "refused: {fault}");
+    }
+    for task in 0..table.tasks() as u8 {
+        let window = table.window(task);
+        let bound = table.bound(task);
+        println!(rt, "bound {task} {window} {bound}")?;
+    }
+    Ok(())
+}

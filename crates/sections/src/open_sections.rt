@@ -1,0 +1,79 @@
+// Open sections, fully preemptive: every tick may be the last of a stretch.
+ghost use mathlib.Core.Path.{_≡_};
+ghost use Rattle.std.specs.Results.{Cases};
+ghost use Rattle.std.specs.declared.option.Option.the-variants.{Some, None};
+ghost use Rattle.kinds.specs.SectionKinds.{open-sections, costs-fault};
+ghost use Rattle.kinds.proofs.SectionLaws.{open-lawful};
+ghost use Rattle.rows.specs.Kept.{kept};
+ghost use Rattle.sections.specs.Unfaulted.{Unfaulted, no-fault};
+use crate::costs::COSTS;
+use model::fault::Fault;
+use model::fault::Part;
+use model::sections::Sections;
+use rows::per_task::PerTask;
+use rows::rule::LimitsRule;
+
+#[derive(Drop)]
+pub struct OpenSections {
+    rows: PerTask<u32>,
+    // a cost of 0 would leave no tick for the tail
+    ghost faultless: { Unfaulted (costs-fault (kept rows)) },
+}
+
+impl OpenSections {
+    // One cost for each task.
+    pub fn new(costs: &[u32]) -> Result<OpenSections, Fault>
+        ensures { λ r. ⌜ Cases r
+            (λ s. (open-sections (kept (s .rows)) ≡ open-sections (now (costs .entry))) × (costs-fault (now (costs .entry)) ≡ None))
+            (λ f. costs-fault (now (costs .entry)) ≡ Some f) ⌝ }
+    {
+        let rows = PerTask::checked(&COSTS, Part::Sections, costs)?;
+        Ok(OpenSections { rows })
+    }
+}
+
+pub impl Sections for OpenSections as OpenSectionsSections {
+    ghost meaning = { λ s. open-sections (kept (s .rows)) };
+
+    ghost lawful = { λ s. open-lawful (kept (s .rows)) (no-fault (costs-fault (kept (s .rows))) (s .faultless)) };
+
+    fn tasks(&self) -> u8 {
+        self.rows.tasks()
+    }
+
+    fn cost(&self, task: u8) -> u32 {
+        self.rows.get(task).unwrap_or(0)
+    }
+
+    fn longest(&self, task: u8) -> u32 {
+        match self.rows.get(task) {
+            Some(_) => 1,
+            None => 0,
+        }
+    }
+
+    fn tail(&self, task: u8) -> u32 {
+        match self.rows.get(task) {
+            Some(_) => 1,
+            None => 0,
+        }
+    }
+
+    fn may_hold(&self, _task: u8, _received: u32, _since: u32, _openings: u32) -> bool {
+        false
+    }
+
+    fn may_open(&self, task: u8, received: u32, _since: u32, _openings: u32) -> bool {
+        match self.rows.get(task) {
+            Some(cost) => received < cost,
+            None => false,
+        }
+    }
+
+    fn may_finish(&self, task: u8, received: u32, _since: u32, _openings: u32) -> bool {
+        match self.rows.get(task) {
+            Some(cost) => received <= cost,
+            None => false,
+        }
+    }
+}
