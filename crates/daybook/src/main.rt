@@ -39,7 +39,8 @@ fn print_sheet<R, O, S>(rt: &LibcRuntime, table: &Judged<R, O, S>) -> io::Result
     if let Some(fault) = table.verdict() {
         return println!(rt, "refused: {fault}");
     }
-    for task in 0..table.tasks() as u8 {
+    // an accepted table has at most sixteen tasks
+    for task in 0..table.tasks().min(16) as u8 {
         let window = table.window(task);
         let bound = table.bound(task);
         println!(rt, "bound {task} {window} {bound}")?;
