@@ -5,6 +5,7 @@ ghost use Rattle.std.specs.Results.{Cases};
 ghost use Rattle.std.specs.declared.option.Option.the-variants.{Some, None};
 ghost use Rattle.kinds.specs.ArrivalKinds.{delayed, delays-fault};
 ghost use Rattle.kinds.proofs.ArrivalLaws.{delayed-lawful};
+use crate::spacing::MOST_SPACING;
 use model::arrivals::Arrivals;
 use model::fault::Fault;
 use model::fault::Part;
@@ -12,10 +13,10 @@ use rows::rule::Limits;
 use rows::rule::LimitsRule;
 use rows::rule::making_fault;
 
-// No delay is allowed too.
+// A release may also come in time.
 const LIMITS: Limits = Limits {
     low: 0,
-    high: 1_000_000,
+    high: MOST_SPACING,
 };
 
 // How late the releases of each task can come.
@@ -25,7 +26,7 @@ pub struct Delays {
 }
 
 impl Delays {
-    // One delay for each task, and any number for a task that there is not.
+    // One delay for each of sixteen tasks, also for those that there are not.
     pub fn new(ticks: &[u32; 16]) -> Result<Delays, Fault>
         ensures { λ r. ⌜ Cases r
             (λ s. (s .ticks ≡ now (ticks .entry)) × (delays-fault (now (ticks .entry)) ≡ None))

@@ -7,6 +7,7 @@ ghost use Rattle.kinds.specs.ArrivalKinds.{rounded-up, separated, separations-f
 ghost use Rattle.kinds.proofs.ArrivalLaws.{separated-lawful};
 ghost use Rattle.rows.specs.Kept.{kept};
 ghost use Rattle.arrivals.specs.Unfaulted.{Unfaulted, no-fault};
+use crate::spacing::MOST_SPACING;
 use model::arrivals::Arrivals;
 use model::fault::Fault;
 use model::fault::Part;
@@ -17,7 +18,7 @@ use rows::rule::LimitsRule;
 // A separation is at least one tick.
 const LIMITS: Limits = Limits {
     low: 1,
-    high: 1_000_000,
+    high: MOST_SPACING,
 };
 
 #[derive(Drop)]
@@ -31,7 +32,7 @@ impl Separations {
     // One separation for each task.
     pub fn new(separations: &[u32]) -> Result<Separations, Fault>
         ensures { λ r. ⌜ Cases r
-            (λ s. (separated (kept (s .rows)) ≡ separated (now (separations .entry))) × (separations-fault (now (separations .entry)) ≡ None))
+            (λ s. (kept (s .rows) ≡ now (separations .entry)) × (separations-fault (now (separations .entry)) ≡ None))
             (λ f. separations-fault (now (separations .entry)) ≡ Some f) ⌝ }
     {
         let rows = PerTask::checked(&LIMITS, Part::Arrivals, separations)?;

@@ -1,15 +1,15 @@
 // Steps: a row for each task says how the releases of a densest run fall, and after what time they repeat.
 ghost use mathlib.Core.Path.{_≡_};
-ghost use mathlib.Core.List.{List};
 ghost use Prim.Native.Nat.{_+_, _*_, _/_, _≤_, max};
 ghost use lib.ListN.{length, drop, getD};
 ghost use denote.Ref.{now as at-last};
 ghost use Rattle.std.specs.Results.{Cases};
 ghost use Rattle.std.specs.declared.option.Option.the-variants.{Some, None};
-ghost use Rattle.kinds.specs.ArrivalKinds.{used, at-most, steps-count, steps-row, stepped, steps-tasks, steps-refused, steps-fault};
+ghost use Rattle.kinds.specs.ArrivalKinds.{used, at-most, steps-count, steps-row, stepped, steps-refused, steps-fault};
 ghost use Rattle.kinds.specs.ArrivalKinds.{blank, climbs, entries-in-order};
 ghost use Rattle.kinds.proofs.ArrivalLaws.{stepped-lawful};
 ghost use Rattle.arrivals.specs.PlainSteps.{Plain-steps};
+use crate::spacing::MOST_SPACING;
 use kinds::numbers::used;
 use model::arrivals::Arrivals;
 use model::fault::Fault;
@@ -99,7 +99,7 @@ fn refused(row: &[u32]) -> Option<Refusal>
     ensures { λ r. ⌜ r ≡ steps-refused (now (row .entry)) ⌝ }
 {
     let repeat = row[0];
-    if repeat < 1 || repeat > 1_000_000 {
+    if repeat < 1 || repeat > MOST_SPACING {
         return Some(Refusal::Range);
     }
     if in_order(repeat, &row[1..]) {
@@ -109,7 +109,7 @@ fn refused(row: &[u32]) -> Option<Refusal>
     }
 }
 
-// Whether the entries start at 1, never fall, pass no repeat length, and have nothing behind the first 0.
+// Whether the entries start at 1, never fall, are at most the repeat length, and have nothing but 0 behind the first 0.
 fn in_order(repeat: u32, entries: &[u32]) -> bool
     ensures { λ r. ⌜ r ≡ entries-in-order repeat (now (entries .entry)) ⌝ }
 {

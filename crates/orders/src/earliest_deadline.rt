@@ -30,7 +30,7 @@ impl EarliestDeadline {
     // One relative deadline for each task.
     pub fn new(deadlines: &[u32]) -> Result<EarliestDeadline, Fault>
         ensures { λ r. ⌜ Cases r
-            (λ s. (earliest-deadline (kept (s .rows)) ≡ earliest-deadline (now (deadlines .entry))) × (relative-deadlines-fault (now (deadlines .entry)) ≡ None))
+            (λ s. (kept (s .rows) ≡ now (deadlines .entry)) × (relative-deadlines-fault (now (deadlines .entry)) ≡ None))
             (λ f. relative-deadlines-fault (now (deadlines .entry)) ≡ Some f) ⌝ }
     {
         let rows = PerTask::checked(&LIMITS, Part::Order, deadlines)?;

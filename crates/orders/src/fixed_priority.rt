@@ -34,7 +34,7 @@ impl FixedPriority {
     // One urgency for each task.
     pub fn new(urgencies: &[u8]) -> Result<FixedPriority, Fault>
         ensures { λ r. ⌜ Cases r
-            (λ s. (fixed-priority (kept (s .rows)) ≡ fixed-priority (now (urgencies .entry))) × (urgencies-fault (now (urgencies .entry)) ≡ None))
+            (λ s. (kept (s .rows) ≡ now (urgencies .entry)) × (urgencies-fault (now (urgencies .entry)) ≡ None))
             (λ f. urgencies-fault (now (urgencies .entry)) ≡ Some f) ⌝ }
     {
         let rows = PerTask::checked(&AnyUrgency, Part::Order, urgencies)?;

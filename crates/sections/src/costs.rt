@@ -1,10 +1,10 @@
 // What a job can cost.
 use rows::rule::Limits;
 
-pub const MOST_COST: u32 = 100_000;
+pub(crate) const MOST_COST: u32 = 100_000;
 
 // A job takes at least one tick.
-pub const COSTS: Limits = Limits {
+pub(crate) const COSTS: Limits = Limits {
     low: 1,
     high: MOST_COST,
 };

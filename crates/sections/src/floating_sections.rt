@@ -41,7 +41,7 @@ impl FloatingSections {
     // One row for each task.
     pub fn new(rows: &[FloatingTask]) -> Result<FloatingSections, Fault>
         ensures { λ r. ⌜ Cases r
-            (λ s. (floating-sections (kept (s .rows)) ≡ floating-sections (now (rows .entry))) × (floating-fault (now (rows .entry)) ≡ None))
+            (λ s. (kept (s .rows) ≡ now (rows .entry)) × (floating-fault (now (rows .entry)) ≡ None))
             (λ f. floating-fault (now (rows .entry)) ≡ Some f) ⌝ }
     {
         let rows = PerTask::checked(&FloatingRow, Part::Sections, rows)?;

@@ -77,7 +77,7 @@ impl PointSections {
     // One row for each task: up to eight segments, with 0 behind the last.
     pub fn new(rows: &[[u32; 8]]) -> Result<PointSections, Fault>
         ensures { λ r. ⌜ Cases r
-            (λ s. (points-sections (kept (s .rows)) ≡ points-sections (now (rows .entry))) × (points-fault (now (rows .entry)) ≡ None))
+            (λ s. (kept (s .rows) ≡ now (rows .entry)) × (points-fault (now (rows .entry)) ≡ None))
             (λ f. points-fault (now (rows .entry)) ≡ Some f) ⌝ }
     {
         let rows = PerTask::checked(&PointsRow, Part::Sections, rows)?;

@@ -5,7 +5,7 @@ ghost use lib.ListN.{length, take};
 ghost use Rattle.std.specs.shelf.Lists.{sum};
 ghost use Rattle.kinds.specs.SectionKinds.{largest, final, points-shape};
 
-pub fn total(segments: &[u32]) -> u64
+pub(crate) fn total(segments: &[u32]) -> u64
     requires { ⌜ length (now segments) ≤ 8 ⌝ }
     ensures { λ r. ⌜ r ≡ sum (now (segments .entry)) ⌝ }
 {
@@ -24,7 +24,7 @@ fn up_to(segments: &[u32], place: usize) -> u64
     total(&segments[0..place + 1])
 }
 
-pub fn longest(segments: &[u32]) -> u32
+pub(crate) fn longest(segments: &[u32]) -> u32
     ensures { λ r. ⌜ r ≡ largest (now (segments .entry)) ⌝ }
 {
     let mut longest = 0u32;
@@ -34,7 +34,7 @@ pub fn longest(segments: &[u32]) -> u32
     longest
 }
 
-pub fn last(segments: &[u32]) -> u32
+pub(crate) fn last(segments: &[u32]) -> u32
     ensures { λ r. ⌜ r ≡ final 0 (now (segments .entry)) ⌝ }
 {
     match segments.last() {
@@ -44,7 +44,7 @@ pub fn last(segments: &[u32]) -> u32
 }
 
 // Whether a tick of a segment leaves some of it.
-pub fn may_hold(segments: &[u32], received: u32, since: u32, openings: u32) -> bool
+pub(crate) fn may_hold(segments: &[u32], received: u32, since: u32, openings: u32) -> bool
     requires { ⌜ length (now segments) ≤ 8 ⌝ }
     ensures { λ r. ⌜ r ≡ points-shape (now (segments .entry)) .hold received since openings ⌝ }
 {
@@ -55,7 +55,7 @@ pub fn may_hold(segments: &[u32], received: u32, since: u32, openings: u32) -> b
 }
 
 // Whether a tick may be the last of a segment that has another behind it.
-pub fn may_open(segments: &[u32], received: u32, since: u32, openings: u32) -> bool
+pub(crate) fn may_open(segments: &[u32], received: u32, since: u32, openings: u32) -> bool
     requires { ⌜ length (now segments) ≤ 8 ⌝ }
     ensures { λ r. ⌜ r ≡ points-shape (now (segments .entry)) .opens received since openings ⌝ }
 {
@@ -66,7 +66,7 @@ pub fn may_open(segments: &[u32], received: u32, since: u32, openings: u32) -> b
 }
 
 // Whether a tick may be the last of the last segment.
-pub fn may_finish(segments: &[u32], received: u32, since: u32, openings: u32) -> bool
+pub(crate) fn may_finish(segments: &[u32], received: u32, since: u32, openings: u32) -> bool
     requires { ⌜ length (now segments) ≤ 8 ⌝ }
     ensures { λ r. ⌜ r ≡ points-shape (now (segments .entry)) .done received since openings ⌝ }
 {

@@ -24,7 +24,7 @@ impl ShutSections {
     // One cost for each task.
     pub fn new(costs: &[u32]) -> Result<ShutSections, Fault>
         ensures { λ r. ⌜ Cases r
-            (λ s. (shut-sections (kept (s .rows)) ≡ shut-sections (now (costs .entry))) × (costs-fault (now (costs .entry)) ≡ None))
+            (λ s. (kept (s .rows) ≡ now (costs .entry)) × (costs-fault (now (costs .entry)) ≡ None))
             (λ f. costs-fault (now (costs .entry)) ≡ Some f) ⌝ }
     {
         let rows = PerTask::checked(&COSTS, Part::Sections, costs)?;

@@ -1,13 +1,13 @@
 use borrow.Author.Needs.{needs}
-use mathlib.Core.Path.{_≡_, sym, ap, _∙_}
+use mathlib.Core.Path.{_≡_, ap, _∙_}
 use mathlib.Core.List.{List}
-use Prim.Native.Nat.{ℕ, _+_, _-_, _*_, _/_, _%_, _≤_, max}
+use Prim.Native.Nat.{ℕ, _+_, _-_, _*_, _%_, _≤_, max}
 use native.Mathlib.Omega.{arith}
 use native.Mathlib.Nat.{div-le-self}
 use lib.ListN.{length, drop, getD, length-take, length-drop}
 use Rattle.std.proofs.shelf.Bits.{mul-le}
 use Rattle.std.proofs.shelf.Lists.{take-rest}
-use Rattle.kinds.specs.ArrivalKinds.{used, at-most, steps-count}
+use Rattle.kinds.specs.ArrivalKinds.{used, steps-count}
 use Rattle.kinds.proofs.ArrivalLaws.{in-time-within}
 use Rattle.arrivals.proofs.steps.releases.Needs as need
 
