@@ -1,5 +1,9 @@
 // The sealing sheet of the built-in table.
 ghost use mathlib.Core.Path.{_≡_};
+ghost use mathlib.Core.List.{[], _∷_};
+ghost use Rattle.std.specs.Of.Vec.{vec-items};
+ghost use Rattle.std.specs.Results.{Cases};
+ghost use Rattle.daybook.specs.BuiltIn.{Built-in-sheet};
 use analysis::draft::Draft;
 use analysis::judged::Judged;
 use arrivals::separations::Separations;
@@ -27,8 +31,11 @@ fn main(rt: LibcRuntime) -> Result<(), AnyError> {
     Ok(())
 }
 
-// Two tasks under earliest deadline first, fully preemptive.
-fn built_in(deadlines: Vec<u32>) -> Result<BuiltIn, Fault> {
+// Two tasks under earliest deadline first, fully preemptive. No making refuses, and the sheet is known.
+fn built_in(deadlines: Vec<u32>) -> Result<BuiltIn, Fault>
+    requires { ⌜ vec-items deadlines ≡ 4 ∷ 7 ∷ [] ⌝ }
+    ensures { λ r. ⌜ Cases r (λ t. Built-in-sheet (t .verdict) (t .sheet .windows) (t .sheet .bounds)) (λ _. ⊥) ⌝ }
+{
     let arrivals = Separations::new(&[4, 12])?;
     let order = EarliestDeadline::new(deadlines.as_slice())?;
     let sections = OpenSections::new(&[2, 3])?;
