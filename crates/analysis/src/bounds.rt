@@ -23,7 +23,11 @@ impl<'t, R: Arrivals, O: Order, S: Sections> Parts<'t, R, O, S> {
     pub fn window(self, task: u8) -> Option<u32>
         ensures { λ r. ⌜ r ≡ window (meant (R·Arrivals .meaning) (O·Order .meaning) (S·Sections .meaning) (self .entry)) task ⌝ }
     {
-        let load = Load { parts: self, task, blocked: self.blocked(task) };
+        let load = Load {
+            parts: self,
+            task,
+            blocked: self.blocked(task),
+        };
         least_length(&load, LONGEST_WINDOW)
     }
 
@@ -59,7 +63,12 @@ impl<'t, R: Arrivals, O: Order, S: Sections> Parts<'t, R, O, S> {
     {
         let before = u64::from(blocking) + self.work(task, offset + 1);
         let own = before.saturating_sub(u64::from(self.sections.tail(task))) + 1;
-        let need = Need { parts: self, task, offset, own };
+        let need = Need {
+            parts: self,
+            task,
+            offset,
+            own,
+        };
         least_length(&need, LONGEST_WINDOW)
     }
 }

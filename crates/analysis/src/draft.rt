@@ -17,6 +17,11 @@ impl<R, O, S> Draft<R, O, S> {
         ensures order { λ r. ⌜ r .order ≡ order ⌝ }
         ensures sections { λ r. ⌜ r .sections ≡ sections ⌝ }
     {
-        Draft { deadlines, arrivals, order, sections }
+        Draft {
+            deadlines,
+            arrivals,
+            order,
+            sections,
+        }
     }
 }

@@ -23,7 +23,10 @@ use rows::rule::LimitsRule;
 use rows::rule::MOST_TASKS;
 use rows::rule::making_fault;
 
-const DEADLINES: Limits = Limits { low: 1, high: 100_000 };
+const DEADLINES: Limits = Limits {
+    low: 1,
+    high: 100_000,
+};
 
 impl<R: Arrivals, O: Order, S: Sections> Draft<R, O, S> {
     // The table with its verdict, and with its windows and bounds or, where it is refused, with 0 for all of them.
@@ -35,8 +38,19 @@ impl<R: Arrivals, O: Order, S: Sections> Draft<R, O, S> {
         ensures lighter { λ r. ⌜ No-worse-than-heavier (drafted (R·Arrivals .meaning) (O·Order .meaning) (S·Sections .meaning) self) (r .verdict) (r .sheet .bounds) ⌝ }
     {
         match self.sheet() {
-            Ok(sheet) => Judged { draft: self, verdict: None, sheet },
-            Err(fault) => Judged { draft: self, verdict: Some(fault), sheet: Sheet { windows: [0; 16], bounds: [0; 16] } },
+            Ok(sheet) => Judged {
+                draft: self,
+                verdict: None,
+                sheet,
+            },
+            Err(fault) => Judged {
+                draft: self,
+                verdict: Some(fault),
+                sheet: Sheet {
+                    windows: [0; 16],
+                    bounds: [0; 16],
+                },
+            },
         }
     }
 
@@ -49,7 +63,11 @@ impl<R: Arrivals, O: Order, S: Sections> Draft<R, O, S> {
         if let Some(fault) = self.misfit() {
             return Err(fault);
         }
-        let parts = Parts { arrivals: &self.arrivals, order: &self.order, sections: &self.sections };
+        let parts = Parts {
+            arrivals: &self.arrivals,
+            order: &self.order,
+            sections: &self.sections,
+        };
         parts.sheet(self.deadlines.as_slice())
     }
 
@@ -64,7 +82,11 @@ impl<R: Arrivals, O: Order, S: Sections> Draft<R, O, S> {
             || usize::from(self.order.tasks()) != tasks
             || usize::from(self.sections.tasks()) != tasks
         {
-            return Some(Fault { refusal: Refusal::Size, part: Part::Table, task: NO_TASK });
+            return Some(Fault {
+                refusal: Refusal::Size,
+                part: Part::Table,
+                task: NO_TASK,
+            });
         }
         making_fault(&DEADLINES, Part::Table, self.deadlines.as_slice())
     }

@@ -48,11 +48,19 @@ impl<'t, R: Arrivals, O: Order, S: Sections> Parts<'t, R, O, S> {
             (λ f. missed (meant (R·Arrivals .meaning) (O·Order .meaning) (S·Sections .meaning) (self .entry)) task deadline ≡ Some f) ⌝ }
     {
         let Some(window) = self.window(task) else {
-            return Err(Fault { refusal: Refusal::Overload, part: Part::Table, task });
+            return Err(Fault {
+                refusal: Refusal::Overload,
+                part: Part::Table,
+                task,
+            });
         };
         let bound = self.bound(task, window);
         if bound > deadline {
-            return Err(Fault { refusal: Refusal::Late, part: Part::Table, task });
+            return Err(Fault {
+                refusal: Refusal::Late,
+                part: Part::Table,
+                task,
+            });
         }
         Ok(Times { window, bound })
     }

@@ -1,2 +1,1 @@
-pub mod Unfaulted
 pub mod PlainSteps

@@ -6,7 +6,7 @@ ghost use Rattle.std.specs.declared.option.Option.the-variants.{Some, None};
 ghost use Rattle.kinds.specs.ArrivalKinds.{rounded-up, separated, separations-fault};
 ghost use Rattle.kinds.proofs.ArrivalLaws.{separated-lawful};
 ghost use Rattle.rows.specs.Kept.{kept};
-ghost use Rattle.arrivals.specs.Unfaulted.{Unfaulted, no-fault};
+ghost use Rattle.kinds.specs.Unfaulted.{Unfaulted, no-fault};
 use crate::spacing::MOST_SPACING;
 use model::arrivals::Arrivals;
 use model::fault::Fault;

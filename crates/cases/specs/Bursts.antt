@@ -33,6 +33,6 @@ module _ (tasks extra gap : ℕ) (small : extra ≤ 255) where
         some-at-one = λ k has. rw (lt-ltb k tasks has) (omega arith);
         bounded = λ k d has short. when-below (ltb k tasks && leb 1 d) (burst-count extra gap d) _ (λ _. omega (arith, div-le-self (d - 1) (suc gap)));
         rises = λ k d e has longer short. when-implies (ltb k tasks && leb 1 d) (ltb k tasks && leb 1 e) _ _ (asked k d e longer)
-          (λ _. omega (arith, quotient-rises (d - 1) (e - 1) (suc gap) (omega arith) (omega arith)));
+            (λ _. omega (arith, quotient-rises (d - 1) (e - 1) (suc gap) (omega arith) (omega arith)));
         absent = λ k d past short. ap (λ b. when b (burst-count extra gap d)) (and-left (ltb k tasks) (leb 1 d) (le-ltb k tasks past));
       }

@@ -21,5 +21,9 @@ fn refused<T: Drop>(made: Result<T, Fault>) -> Option<Fault> {
 }
 
 fn fault(refusal: Refusal, part: Part, task: u8) -> Option<Fault> {
-    Some(Fault { refusal, part, task })
+    Some(Fault {
+        refusal,
+        part,
+        task,
+    })
 }

@@ -66,8 +66,8 @@ abbrev pub stepped : List ℕ → ArrivalsMeaning
 stepped numbers = record {
   tasks = steps-tasks numbers;
   count = λ k d.
-    let row = steps-row numbers k in
-    cond (leb (suc k) (steps-tasks numbers) && leb 1 d) (max 1 (steps-count (max 1 (getD row 0 0)) (used (drop 1 row)) d)) 0;
+      let row = steps-row numbers k in
+      cond (leb (suc k) (steps-tasks numbers) && leb 1 d) (max 1 (steps-count (max 1 (getD row 0 0)) (used (drop 1 row)) d)) 0;
 }
 
 -- nothing but 0

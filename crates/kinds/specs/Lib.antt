@@ -1,3 +1,4 @@
+pub mod Unfaulted
 pub mod ArrivalKinds
 pub mod OrderKinds
 pub mod SectionKinds

@@ -49,9 +49,10 @@ module _ (t : Table) where
     -- none of its bounds is larger than those of an accepted heavier table
     pub judged-no-worse : Lawful (t .parts) → No-worse-than-heavier t found bounds
     judged-no-worse lawful heavy heavy-lawful accepted lighter =
-        let both = lighter-accepted t heavy lawful heavy-lawful accepted lighter in
-        (held .by-verdict ∙ both .0,
-         λ k has. rw (held .by-bound k ∙ on-accepted (bound (t .parts)) k (both .0) has) (both .1 k has))
+        let both = lighter-accepted t heavy lawful heavy-lawful accepted lighter in (
+          held .by-verdict ∙ both .0,
+          λ k has. rw (held .by-bound k ∙ on-accepted (bound (t .parts)) k (both .0) has) (both .1 k has),
+        )
 
     -- the sheet of an accepted table says what it should of each task
     pub judged-sealed : Lawful (t .parts) → Sealed-sheet t found windows bounds

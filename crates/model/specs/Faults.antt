@@ -45,7 +45,6 @@ abbrev pub fault : Refusal → Part → ℕ → Fault
 fault r p k = record { refusal = r; part = p; task = k }
 
 infixr 30 _or-else_
-
 -- the first of two, if there is any
 abbrev pub _or-else_ : {X : Type 0} → Option X → Option X → Option X
 _or-else_ (Some f) later = Some f

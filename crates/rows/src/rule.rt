@@ -45,7 +45,11 @@ pub fn making_fault<T, C: RowRule<T>>(rule: &C, part: Part, rows: &[T]) -> Optio
     ensures { λ r. ⌜ r ≡ making-fault (C·RowRule .refuses (now (rule .entry))) part (now (rows .entry)) ⌝ }
 {
     if rows.is_empty() || rows.len() > MOST_TASKS {
-        return Some(Fault { refusal: Refusal::Size, part, task: NO_TASK });
+        return Some(Fault {
+            refusal: Refusal::Size,
+            part,
+            task: NO_TASK,
+        });
     }
     first_fault(rule, part, rows)
 }
@@ -57,7 +61,11 @@ fn first_fault<T, C: RowRule<T>>(rule: &C, part: Part, rows: &[T]) -> Option<Fau
     let mut task = 0u8;
     for row in rows {
         if let Some(refusal) = rule.refused(row) {
-            return Some(Fault { refusal, part, task });
+            return Some(Fault {
+                refusal,
+                part,
+                task,
+            });
         }
         task += 1;
     }

@@ -5,7 +5,7 @@ ghost use Rattle.std.specs.declared.option.Option.the-variants.{Some, None};
 ghost use Rattle.kinds.specs.SectionKinds.{floating-sections, floating-refused, floating-fault};
 ghost use Rattle.kinds.proofs.SectionLaws.{floating-lawful};
 ghost use Rattle.rows.specs.Kept.{kept};
-ghost use Rattle.sections.specs.Unfaulted.{Unfaulted, no-fault};
+ghost use Rattle.kinds.specs.Unfaulted.{Unfaulted, no-fault};
 use crate::costs::MOST_COST;
 use kinds::FloatingTask;
 use model::fault::Fault;

@@ -5,7 +5,7 @@ ghost use Rattle.std.specs.declared.option.Option.the-variants.{Some, None};
 ghost use Rattle.kinds.specs.SectionKinds.{open-sections, costs-fault};
 ghost use Rattle.kinds.proofs.SectionLaws.{open-lawful};
 ghost use Rattle.rows.specs.Kept.{kept};
-ghost use Rattle.sections.specs.Unfaulted.{Unfaulted, no-fault};
+ghost use Rattle.kinds.specs.Unfaulted.{Unfaulted, no-fault};
 use crate::costs::COSTS;
 use model::fault::Fault;
 use model::fault::Part;

@@ -5,7 +5,7 @@ ghost use Rattle.std.specs.declared.option.Option.the-variants.{Some, None};
 ghost use Rattle.kinds.specs.SectionKinds.{points-sections, points-refused, segments-refused, number-behind, points-fault};
 ghost use Rattle.kinds.proofs.SectionLaws.{points-lawful};
 ghost use Rattle.rows.specs.Kept.{kept};
-ghost use Rattle.sections.specs.Unfaulted.{Unfaulted, no-fault};
+ghost use Rattle.kinds.specs.Unfaulted.{Unfaulted, no-fault};
 use crate::costs::MOST_COST;
 use crate::segments;
 use kinds::numbers::used;

@@ -55,11 +55,26 @@ fn sections_have_one_to_sixteen_tasks() -> Result<(), Fail> {
 fn a_table_has_one_to_sixteen_tasks_in_every_part(rt: LibcRuntime) -> Result<(), Fail> {
     let size = fault(Refusal::Size, Part::Table, NO_TASK);
     let heap = rt.alloc();
-    let none = Draft::new(vec![in heap]?, Bursts::new(0, 0, 0), FixedPriority::new(&[1])?, OpenSections::new(&[1])?).judge();
+    let none = Draft::new(
+        vec![in heap]?,
+        Bursts::new(0, 0, 0),
+        FixedPriority::new(&[1])?,
+        OpenSections::new(&[1])?,
+    ).judge();
     check_eq((none.verdict(), none.tasks()), (size, 0))?;
-    let many = Draft::new(vec![in heap; 9; 17]?, Bursts::new(17, 0, 9), FixedPriority::new(&[0; 16])?, OpenSections::new(&[1; 16])?).judge();
+    let many = Draft::new(
+        vec![in heap; 9; 17]?,
+        Bursts::new(17, 0, 9),
+        FixedPriority::new(&[0; 16])?,
+        OpenSections::new(&[1; 16])?,
+    ).judge();
     check_eq((many.verdict(), many.tasks()), (size, 17))?;
-    let fewer = Draft::new(vec![in heap; 9, 9]?, Bursts::new(2, 0, 9), FixedPriority::new(&[1, 1])?, OpenSections::new(&[1])?).judge();
+    let fewer = Draft::new(
+        vec![in heap; 9, 9]?,
+        Bursts::new(2, 0, 9),
+        FixedPriority::new(&[1, 1])?,
+        OpenSections::new(&[1])?,
+    ).judge();
     check_eq(fewer.verdict(), size)
 }
 
@@ -72,7 +87,12 @@ fn deadlines_are_in_range(rt: LibcRuntime) -> Result<(), Fail> {
         (100_000, fault(Refusal::Overload, Part::Table, 0)),
     ] {
         let deadlines = vec![in rt.alloc(); 1, deadline]?;
-        let draft = Draft::new(deadlines, Separations::new(&[1, 9])?, FixedPriority::new(&[1, 1])?, OpenSections::new(&[2, 1])?);
+        let draft = Draft::new(
+            deadlines,
+            Separations::new(&[1, 9])?,
+            FixedPriority::new(&[1, 1])?,
+            OpenSections::new(&[2, 1])?,
+        );
         check_eq(draft.judge().verdict(), verdict)?;
     }
     Ok(())
@@ -81,5 +101,8 @@ fn deadlines_are_in_range(rt: LibcRuntime) -> Result<(), Fail> {
 #[test]
 fn a_fault_is_printed_for_a_person(rt: LibcRuntime) -> Result<(), Fail> {
     let late = fault(Refusal::Late, Part::Table, 1).ok_or("no fault")?;
-    check_eq(format!(rt.alloc(), "{late}")?.as_str(), "5 late, part 4 table, task 1")
+    check_eq(
+        format!(rt.alloc(), "{late}")?.as_str(),
+        "5 late, part 4 table, task 1",
+    )
 }

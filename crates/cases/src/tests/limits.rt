@@ -26,14 +26,23 @@ fn separations_and_delays() -> Result<(), Fail> {
     let mut ticks = [1_000_000; 16];
     check_eq(refused(Delays::new(&ticks)), None)?;
     ticks[15] = 1_000_001;
-    check_eq(refused(Delays::new(&ticks)), fault(Refusal::Range, Part::Arrivals, 15))
+    check_eq(
+        refused(Delays::new(&ticks)),
+        fault(Refusal::Range, Part::Arrivals, 15),
+    )
 }
 
 #[test]
 fn relative_deadlines_and_costs() -> Result<(), Fail> {
     check_eq(refused(EarliestDeadline::new(&[1, 100_000])), None)?;
-    check_eq(refused(EarliestDeadline::new(&[1, 0])), fault(Refusal::Range, Part::Order, 1))?;
-    check_eq(refused(EarliestDeadline::new(&[100_001, 1])), fault(Refusal::Range, Part::Order, 0))?;
+    check_eq(
+        refused(EarliestDeadline::new(&[1, 0])),
+        fault(Refusal::Range, Part::Order, 1),
+    )?;
+    check_eq(
+        refused(EarliestDeadline::new(&[100_001, 1])),
+        fault(Refusal::Range, Part::Order, 0),
+    )?;
     let first = fault(Refusal::Range, Part::Sections, 0);
     check_eq(refused(OpenSections::new(&[100_000])), None)?;
     check_eq(refused(OpenSections::new(&[100_001])), first)?;
@@ -63,13 +72,24 @@ fn steps(row: [u32; 9]) -> Option<Fault> {
 #[test]
 fn steps_rows() -> Result<(), Fail> {
     let order = fault(Refusal::Order, Part::Arrivals, 0);
-    check_eq(steps([1_000_000, 1, 1, 2, 2, 3, 3, 1_000_000, 1_000_000]), None)?;
-    check_eq(steps([0, 1, 0, 0, 0, 0, 0, 0, 0]), fault(Refusal::Range, Part::Arrivals, 0))?;
-    check_eq(steps([1_000_001, 1, 0, 0, 0, 0, 0, 0, 0]), fault(Refusal::Range, Part::Arrivals, 0))?;
+    check_eq(
+        steps([1_000_000, 1, 1, 2, 2, 3, 3, 1_000_000, 1_000_000]),
+        None,
+    )?;
+    check_eq(
+        steps([0, 1, 0, 0, 0, 0, 0, 0, 0]),
+        fault(Refusal::Range, Part::Arrivals, 0),
+    )?;
+    check_eq(
+        steps([1_000_001, 1, 0, 0, 0, 0, 0, 0, 0]),
+        fault(Refusal::Range, Part::Arrivals, 0),
+    )?;
     check_eq(steps([9, 0, 0, 0, 0, 0, 0, 0, 0]), order).note("no entry")?;
     check_eq(steps([9, 2, 0, 0, 0, 0, 0, 0, 0]), order).note("the first entry is not 1")?;
     check_eq(steps([9, 1, 3, 2, 0, 0, 0, 0, 0]), order).note("an entry falls")?;
-    check_eq(steps([9, 1, 9, 10, 0, 0, 0, 0, 0]), order).note("an entry is above the repeat length")?;
+    check_eq(steps([9, 1, 9, 10, 0, 0, 0, 0, 0]), order).note(
+        "an entry is above the repeat length",
+    )?;
     check_eq(steps([9, 1, 3, 0, 4, 0, 0, 0, 0]), order).note("an entry behind a 0")
 }
 
@@ -85,6 +105,9 @@ fn points_rows() -> Result<(), Fail> {
     check_eq(points([100_000, 0, 0, 0, 0, 0, 0, 0]), None)?;
     check_eq(points([100_001, 0, 0, 0, 0, 0, 0, 0]), range)?;
     check_eq(points([0, 1, 0, 0, 0, 0, 0, 0]), range).note("it starts with 0")?;
-    check_eq(points([1, 0, 1, 0, 0, 0, 0, 0]), fault(Refusal::Order, Part::Sections, 0)).note("a number behind a 0")?;
+    check_eq(
+        points([1, 0, 1, 0, 0, 0, 0, 0]),
+        fault(Refusal::Order, Part::Sections, 0),
+    ).note("a number behind a 0")?;
     check_eq(points([1, 0, 100_001, 0, 0, 0, 0, 0]), range).note("a number out of range behind a 0")
 }

@@ -31,7 +31,12 @@ use std::test::*;
 fn a_later_offset_gives_the_bound(rt: LibcRuntime) -> Result<(), Fail> {
     let arrivals = Separations::new(&[70, 100])?;
     let sections = OpenSections::new(&[26, 62])?;
-    let draft = Draft::new(vec![in rt.alloc(); 1000, 1000]?, arrivals, FixedPriority::new(&[2, 1])?, sections);
+    let draft = Draft::new(
+        vec![in rt.alloc(); 1000, 1000]?,
+        arrivals,
+        FixedPriority::new(&[2, 1])?,
+        sections,
+    );
     let table = draft.judge();
     check_eq(table.verdict(), None)?;
     check_eq((table.window(0), table.bound(0)), (26, 26))?;
@@ -42,7 +47,12 @@ fn a_later_offset_gives_the_bound(rt: LibcRuntime) -> Result<(), Fail> {
 // Jobs of cost 2 at every tick never leave the processor free.
 #[test]
 fn a_task_without_a_window_is_an_overload(rt: LibcRuntime) -> Result<(), Fail> {
-    let draft = Draft::new(vec![in rt.alloc(); 1000]?, Separations::new(&[1])?, FixedPriority::new(&[0])?, OpenSections::new(&[2])?);
+    let draft = Draft::new(
+        vec![in rt.alloc(); 1000]?,
+        Separations::new(&[1])?,
+        FixedPriority::new(&[0])?,
+        OpenSections::new(&[2])?,
+    );
     let table = draft.judge();
     check_eq(table.verdict(), fault(Refusal::Overload, Part::Table, 0))?;
     check_eq((table.window(0), table.bound(0)), (0, 0))
@@ -50,9 +60,17 @@ fn a_task_without_a_window_is_an_overload(rt: LibcRuntime) -> Result<(), Fail> {
 
 #[test]
 fn a_deadline_may_be_the_bound_and_no_less(rt: LibcRuntime) -> Result<(), Fail> {
-    for (deadline, bound, verdict) in [(100_000, 100_000, None), (99_999, 0, fault(Refusal::Late, Part::Table, 0))] {
+    for (deadline, bound, verdict) in [
+        (100_000, 100_000, None),
+        (99_999, 0, fault(Refusal::Late, Part::Table, 0)),
+    ] {
         let arrivals = Separations::new(&[1_000_000])?;
-        let draft = Draft::new(vec![in rt.alloc(); deadline]?, arrivals, FixedPriority::new(&[0])?, OpenSections::new(&[100_000])?);
+        let draft = Draft::new(
+            vec![in rt.alloc(); deadline]?,
+            arrivals,
+            FixedPriority::new(&[0])?,
+            OpenSections::new(&[100_000])?,
+        );
         let table = draft.judge();
         check_eq(table.verdict(), verdict)?;
         check_eq(table.bound(0), bound)?;
@@ -63,7 +81,12 @@ fn a_deadline_may_be_the_bound_and_no_less(rt: LibcRuntime) -> Result<(), Fail> 
 // Of the two tasks the first at fault is the verdict, and nothing is left on the sheet.
 #[test]
 fn the_first_task_at_fault_is_the_verdict(rt: LibcRuntime) -> Result<(), Fail> {
-    let draft = Draft::new(vec![in rt.alloc(); 2, 2]?, Separations::new(&[4, 12])?, EarliestDeadline::new(&[4, 7])?, OpenSections::new(&[2, 3])?);
+    let draft = Draft::new(
+        vec![in rt.alloc(); 2, 2]?,
+        Separations::new(&[4, 12])?,
+        EarliestDeadline::new(&[4, 7])?,
+        OpenSections::new(&[2, 3])?,
+    );
     let table = draft.judge();
     check_eq(table.verdict(), fault(Refusal::Late, Part::Table, 0))?;
     check_eq((table.window(0), table.bound(1)), (0, 0))
@@ -72,7 +95,12 @@ fn the_first_task_at_fault_is_the_verdict(rt: LibcRuntime) -> Result<(), Fail> {
 // A burst of two jobs of each task: 2 ticks for the urgent one, and 6 for the other.
 #[test]
 fn a_part_of_no_listed_kind_is_judged(rt: LibcRuntime) -> Result<(), Fail> {
-    let draft = Draft::new(vec![in rt.alloc(); 2, 6]?, Bursts::new(2, 1, 9), FixedPriority::new(&[2, 1])?, OpenSections::new(&[1, 2])?);
+    let draft = Draft::new(
+        vec![in rt.alloc(); 2, 6]?,
+        Bursts::new(2, 1, 9),
+        FixedPriority::new(&[2, 1])?,
+        OpenSections::new(&[1, 2])?,
+    );
     let table = draft.judge();
     check_eq(table.verdict(), None)?;
     check_eq((table.window(0), table.bound(0)), (2, 2))?;
@@ -88,6 +116,12 @@ fn a_delay_over_a_delay_over_steps() -> Result<(), Fail> {
     let first = Delay::over(Steps::new(&numbers)?, Delays::new(&ticks)?);
     ticks[0] = 1;
     let both = Delay::over(first, Delays::new(&ticks)?);
-    check_eq((both.count(0, 0), both.count(0, 1), both.count(0, 7)), (0, 2, 2))?;
-    check_eq((both.count(0, 8), both.count(0, 10), both.count(1, 5)), (3, 4, 0))
+    check_eq(
+        (both.count(0, 0), both.count(0, 1), both.count(0, 7)),
+        (0, 2, 2),
+    )?;
+    check_eq(
+        (both.count(0, 8), both.count(0, 10), both.count(1, 5)),
+        (3, 4, 0),
+    )
 }

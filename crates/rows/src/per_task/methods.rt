@@ -26,7 +26,10 @@ impl<T: Copy> PerTask<T> {
         for (task, row) in rows.iter().enumerate() {
             copies[task] = *row;
         }
-        Ok(PerTask { rows: copies, tasks: rows.len() as u8 })
+        Ok(PerTask {
+            rows: copies,
+            tasks: rows.len() as u8,
+        })
     }
 
     pub fn tasks(&self) -> u8

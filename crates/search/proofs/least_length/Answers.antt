@@ -19,7 +19,7 @@ pub returns-then-wanted-from-2 : need.returns-then-wanted-from-2
 returns-then-wanted-from-2 g c =
     let demand = g .D·Demand .demand (c .args .demand .now) in
     let never : Never-met demand (c .args .limit) =
-      λ e positive within. unmet-further demand (c .args .limit) (c .loop-length .length) (g .D·Demand .rises (c .args .demand .now)) (search needs) (c .loop-length .inv .1) e positive within (search needs)
+    λ e positive within. unmet-further demand (c .args .limit) (c .loop-length .length) (g .D·Demand .rises (c .args .demand .now)) (search needs) (c .loop-length .inv .1) e positive within (search needs)
     in
     record { value = sym (none-least demand (c .args .limit) never); law = never }
 

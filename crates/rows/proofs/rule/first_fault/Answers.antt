@@ -10,9 +10,10 @@ returns-in-Some g c =
     sym (c .loop-row .inv .1 ∙ fault-here _ _ (c .args .rows .now) _ _ _ (c .loop-row-test .taken) (c .row-item .is) _ (sym (c .refused .ensures) ∙ c .in-Some .is))
 
 pub loop-row-again : need.loop-row-again
-loop-row-again g c =
-    (omega (arith, c .loop-row .inv .0),
-     c .loop-row .inv .1 ∙ fault-later _ _ (c .args .rows .now) _ _ _ (c .loop-row-test .taken) (c .row-item .is) (sym (c .refused .ensures) ∙ c .in-rest .is))
+loop-row-again g c = (
+  omega (arith, c .loop-row .inv .0),
+  c .loop-row .inv .1 ∙ fault-later _ _ (c .args .rows .now) _ _ _ (c .loop-row-test .taken) (c .row-item .is) (sym (c .refused .ensures) ∙ c .in-rest .is),
+)
 
 pub returns : need.returns
 returns g c =

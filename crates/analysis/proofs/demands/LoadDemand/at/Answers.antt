@@ -20,5 +20,6 @@ loop-other-again g c =
     let test = m .order .counted (load .task) in
     let term = λ (o : ℕ). work m o (c .args .length) in
     elim (c .if-counted .came) [
-      then-counted w ↦ running-taken test term _ most-work _ _ _ _ (c .loop-other .inv) (w .ticks-is) (sym (w .if-counted .ensures tt)) (w .work-ticks .ensures .value) (w .work-ticks .ensures .bound)
-    | else-counted w ↦ running-passed test term _ most-work _ _ _ (c .loop-other .inv) (w .ticks-is) (sym (w .if-counted .ensures tt)) ]
+      | then-counted w ↦ running-taken test term _ most-work _ _ _ _ (c .loop-other .inv) (w .ticks-is) (sym (w .if-counted .ensures tt)) (w .work-ticks .ensures .value) (w .work-ticks .ensures .bound)
+      | else-counted w ↦ running-passed test term _ most-work _ _ _ (c .loop-other .inv) (w .ticks-is) (sym (w .if-counted .ensures tt))
+    ]

@@ -24,7 +24,8 @@ loop-other-again g c =
     let test = λ (o : ℕ). not (eqb o (job .task)) in
     let term = λ (o : ℕ). work m o (within (m .order .reach (job .task) o (job .offset)) (c .args .length)) in
     elim (c .if-other-self .came) [
-      then-other-self w ↦ running-taken test term _ most-work _ _ _ _ (c .loop-other .inv) (w .ticks-is) (not-from-false _ (ne-eqb _ _ (w .if-other-self .taken)))
-        (w .work-ticks .ensures .value ∙ ap (λ d. work m (c .loop-other .other) d) (w .lesser .ensures ∙ ap (λ r. within r (c .args .length)) (w .reach-reach .ensures)))
-        (w .work-ticks .ensures .bound)
-    | else-other-self w ↦ running-passed test term _ most-work _ _ _ (c .loop-other .inv) (w .ticks-is) (not-from-true _ (eq-eqb _ _ (w .if-other-self .left))) ]
+      | then-other-self w ↦ running-taken test term _ most-work _ _ _ _ (c .loop-other .inv) (w .ticks-is) (not-from-false _ (ne-eqb _ _ (w .if-other-self .taken)))
+          (w .work-ticks .ensures .value ∙ ap (λ d. work m (c .loop-other .other) d) (w .lesser .ensures ∙ ap (λ r. within r (c .args .length)) (w .reach-reach .ensures)))
+          (w .work-ticks .ensures .bound)
+      | else-other-self w ↦ running-passed test term _ most-work _ _ _ (c .loop-other .inv) (w .ticks-is) (not-from-true _ (eq-eqb _ _ (w .if-other-self .left)))
+    ]

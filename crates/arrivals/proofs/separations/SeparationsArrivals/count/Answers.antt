@@ -1,6 +1,6 @@
 use mathlib.Core.Path.{sym, _∙_}
 use Rattle.kinds.proofs.ArrivalLaws.{separation-positive}
-use Rattle.arrivals.specs.Unfaulted.{no-fault}
+use Rattle.kinds.specs.Unfaulted.{no-fault}
 use Rattle.arrivals.proofs.separations.SeparationsArrivals.count.Needs as need
 
 pub rounded-requires : need.rounded-requires

@@ -12,7 +12,7 @@ use Rattle.model.specs.declared.fault.Part.the-variants.{Sections}
 use Rattle.kinds.specs.ArrivalKinds.{used}
 use Rattle.kinds.specs.SectionKinds.{points-refused, segments-refused, points-fault}
 use Rattle.kinds.proofs.RowLaws.{making-accepted, neither, inside}
-use Rattle.sections.specs.Unfaulted.{no-fault}
+use Rattle.kinds.specs.Unfaulted.{no-fault}
 use Rattle.sections.proofs.point_sections.PointSectionsSections.cost.Needs as need
 
 -- the segments of a row without fault are not too long in all
