@@ -20,7 +20,7 @@ const LONGEST_WINDOW: u32 = 100_000;
 
 impl<'t, R: Arrivals, O: Order, S: Sections> Parts<'t, R, O, S> {
     // The busy window of a task, if it has one.
-    pub fn window(self, task: u8) -> Option<u32>
+    pub(crate) fn window(self, task: u8) -> Option<u32>
         ensures { λ r. ⌜ r ≡ window (meant (R·Arrivals .meaning) (O·Order .meaning) (S·Sections .meaning) (self .entry)) task ⌝ }
     {
         let load = Load {
@@ -32,7 +32,7 @@ impl<'t, R: Arrivals, O: Order, S: Sections> Parts<'t, R, O, S> {
     }
 
     // The greatest response time over the offsets of the window, of which there are `offsets`.
-    pub fn bound(self, task: u8, offsets: u32) -> u32
+    pub(crate) fn bound(self, task: u8, offsets: u32) -> u32
         requires { ⌜ window (meant (R·Arrivals .meaning) (O·Order .meaning) (S·Sections .meaning) self) task ≡ Some offsets ⌝ }
         ensures { λ r. ⌜ r ≡ bound (meant (R·Arrivals .meaning) (O·Order .meaning) (S·Sections .meaning) (self .entry)) task ⌝ }
     {

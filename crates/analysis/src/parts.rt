@@ -16,7 +16,7 @@ pub struct Parts<'t, R, O, S> {
 
 impl<'t, R: Arrivals, O: Order, S: Sections> Parts<'t, R, O, S> {
     // The ticks that the releases of a task in so many ticks can cost.
-    pub fn work(self, task: u8, length: u32) -> u64
+    pub(crate) fn work(self, task: u8, length: u32) -> u64
         ensures value { λ r. ⌜ r ≡ work (meant (R·Arrivals .meaning) (O·Order .meaning) (S·Sections .meaning) (self .entry)) task length ⌝ }
         ensures bound { λ r. ⌜ r ≤ 100000 * 34359738368 ⌝ }
     {
@@ -24,7 +24,7 @@ impl<'t, R: Arrivals, O: Order, S: Sections> Parts<'t, R, O, S> {
     }
 
     // The most ticks for which another task can keep the processor from a job of `task`.
-    pub fn blocked(self, task: u8) -> u32
+    pub(crate) fn blocked(self, task: u8) -> u32
         ensures { λ r. ⌜ r ≡ blocked (meant (R·Arrivals .meaning) (O·Order .meaning) (S·Sections .meaning) (self .entry)) task ⌝ }
     {
         let mut most = 0u32;

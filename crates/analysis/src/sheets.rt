@@ -25,7 +25,7 @@ pub struct Times {
 
 impl<'t, R: Arrivals, O: Order, S: Sections> Parts<'t, R, O, S> {
     // The sheet, or the first task that misses its deadline.
-    pub fn sheet(self, deadlines: &[u32]) -> Result<Sheet, Fault>
+    pub(crate) fn sheet(self, deadlines: &[u32]) -> Result<Sheet, Fault>
         requires { ⌜ length (now deadlines) ≤ 16 ⌝ }
         ensures { λ r. ⌜ Cases r
             (λ s. Kept-so (meant (R·Arrivals .meaning) (O·Order .meaning) (S·Sections .meaning) (self .entry)) (now (deadlines .entry)) (length (now (deadlines .entry))) (s .windows) (s .bounds))

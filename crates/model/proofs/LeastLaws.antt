@@ -15,26 +15,26 @@ Searched demand limit =
     ((d : ℕ) × (least demand limit ≡ Some d) × Least-met demand limit d) ⊎ ((least demand limit ≡ None) × Never-met demand limit)
 
 -- what an answer of the search over n lengths says
-abbrev Says : (ℕ → ℕ) → ℕ → ℕ → Option ℕ → Type 0
-Says demand from n (Some d) = (from ≤ d) × (d < from + n) × (demand d ≤ d) × Unmet demand from d
-Says demand from n None = Unmet demand from (from + n)
+abbrev Says : ℕ → ℕ → (ℕ → ℕ) → Option ℕ → Type 0
+Says from n demand (Some d) = (from ≤ d) × (d < from + n) × (demand d ≤ d) × Unmet from d demand
+Says from n demand None = Unmet from (from + n) demand
 
 -- lengths are unmet if the first is, and those after it
-unmet-first : (demand : ℕ → ℕ) (from to : ℕ) → from < demand from → Unmet demand (suc from) to → Unmet demand from to
+unmet-first : (demand : ℕ → ℕ) (from to : ℕ) → from < demand from → Unmet (suc from) to demand → Unmet from to demand
 unmet-first demand from to first after e low high =
     ⊎-elim (λ same. subst (λ x. x < demand x) same first) (λ other. after e (omega arith) high) (cases-eq from e)
 
 -- an unmet length at the front
-says-more : (demand : ℕ → ℕ) (from n : ℕ) (answer : Option ℕ) → from < demand from → Says demand (suc from) n answer → Says demand from (suc n) answer
+says-more : (demand : ℕ → ℕ) (from n : ℕ) (answer : Option ℕ) → from < demand from → Says (suc from) n demand answer → Says from (suc n) demand answer
 says-more demand from n (Some d) first says = (omega arith, omega arith, says .2, unmet-first demand from d first (says .3))
 says-more demand from n None first says = unmet-first demand from (from + suc n) first (λ e low high. says e low (omega arith))
 
 -- the search answers so
-search-says : (demand : ℕ → ℕ) (n from : ℕ) → Says demand from n (first-met demand n from)
+search-says : (demand : ℕ → ℕ) (n from : ℕ) → Says from n demand (first-met demand n from)
 unfolding first-met
 search-says demand zero from = omega arith
 search-says demand (suc n) from =
-    cond-both (leb (demand from) from) (Some from) (first-met demand n (suc from)) (Says demand from (suc n))
+    cond-both (leb (demand from) from) (Some from) (first-met demand n (suc from)) (Says from (suc n) demand)
     (λ met. (omega arith, omega arith, leb-true (demand from) from met, omega arith))
     (λ unmet. says-more demand from n (first-met demand n (suc from)) (leb-false (demand from) from unmet) (search-says demand n (suc from)))
 
@@ -42,12 +42,12 @@ module _ (demand : ℕ → ℕ) (limit : ℕ) where
   -- a length that is found is the least
   pub least-some : (d : ℕ) → least demand limit ≡ Some d → Least-met demand limit d
   least-some d found =
-      let says : Says demand 1 limit (Some d) = subst (Says demand 1 limit) found (search-says demand limit 1) in
+      let says : Says 1 limit demand (Some d) = subst (Says 1 limit demand) found (search-says demand limit 1) in
       record { positive = says .0; within = omega arith; met = says .2; earlier = says .3 }
 
   -- where none is found, no length up to the limit is met
   pub least-none : least demand limit ≡ None → Never-met demand limit
-  least-none found e low high = subst (Says demand 1 limit) found (search-says demand limit 1) e low (omega arith)
+  least-none found e low high = subst (Says 1 limit demand) found (search-says demand limit 1) e low (omega arith)
 
   -- the search by its answer
   cases-of : (answer : Option ℕ) → least demand limit ≡ answer → Searched demand limit

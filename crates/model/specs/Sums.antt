@@ -31,8 +31,8 @@ abbrev pub least : (ℕ → ℕ) → ℕ → Option ℕ
 least demand limit = first-met demand limit 1
 
 -- the demand is above each length from one on, before another
-abbrev pub Unmet : (ℕ → ℕ) → ℕ → ℕ → Type 0
-Unmet demand from to = (e : ℕ) → from ≤ e → e < to → e < demand e
+abbrev pub Unmet : ℕ → ℕ → (ℕ → ℕ) → Type 0
+Unmet from to demand = (e : ℕ) → from ≤ e → e < to → e < demand e
 
 -- no length up to the limit is met
 abbrev pub Never-met : (ℕ → ℕ) → ℕ → Type 0
@@ -47,4 +47,4 @@ pub record Least-met (demand : ℕ → ℕ) (limit d : ℕ) : Type 0 where
   pub positive : 1 ≤ d
   pub within : d ≤ limit
   pub met : demand d ≤ d
-  pub earlier : Unmet demand 1 d
+  pub earlier : Unmet 1 d demand
