@@ -4,7 +4,7 @@ use mathlib.Core.List.{List}
 use Prim.Native.Nat.{ℕ}
 use lib.ListN.{length}
 use Rattle.std.specs.declared.option.Option.the-variants.{Some, None}
-use Rattle.model.specs.Faults.{_or-else_}
+use Rattle.model.specs.Choice.{_or-else_}
 use Rattle.model.specs.Tables.{Table, size-fault, deadlines-fault, verdict, Judged-so}
 use Rattle.model.specs.declared.fault.Fault.{Fault}
 use Rattle.model.proofs.VerdictLaws.{verdict-tasks}

@@ -2,7 +2,7 @@
 ghost use mathlib.Core.Path.{_≡_};
 ghost use Rattle.std.specs.Results.{Cases};
 ghost use Rattle.std.specs.declared.option.Option.the-variants.{Some, None};
-ghost use Rattle.model.specs.Faults.{_or-else_};
+ghost use Rattle.model.specs.Choice.{_or-else_};
 ghost use Rattle.model.specs.Lighter.{No-worse-than-heavier};
 ghost use Rattle.model.specs.Sealed.{Sealed-sheet};
 ghost use Rattle.model.specs.Tables.{size-fault, deadlines-fault, verdict, Accepts, Judged-so};

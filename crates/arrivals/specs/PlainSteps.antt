@@ -4,7 +4,8 @@ use mathlib.Core.Path.{_≡_}
 use mathlib.Core.List.{List}
 use Prim.Native.Nat.{ℕ, _/_, _<_, _≤_}
 use lib.ListN.{length, drop, getD}
-use Rattle.kinds.specs.ArrivalKinds.{stepped, steps-row, steps-count, used}
+use Rattle.kinds.specs.ArrivalKinds.{stepped, steps-row, steps-count}
+use Rattle.kinds.specs.Numbers.{used}
 
 abbrev pub Plain-steps : List ℕ → Type 0
 Plain-steps numbers =

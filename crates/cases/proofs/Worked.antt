@@ -1,7 +1,8 @@
 -- The reference cases, computed by the definitions.
 use mathlib.Core.Path.{refl}
 use Rattle.model.specs.Analysis.{blocked, load, window, need, ready, response, bound}
-use Rattle.model.specs.Sums.{total, greatest, first-met}
+use Rattle.model.specs.Least.{first-met}
+use Rattle.model.specs.Sums.{total, greatest}
 use Rattle.model.specs.Tables.{first-fault, verdict}
 use Rattle.cases.specs.Reference.{Reference-cases}
 

@@ -17,7 +17,8 @@ use Rattle.std.proofs.shelf.Ways.{tells}
 use Rattle.model.specs.Arrivals.{ArrivalsMeaning, LawfulArrivals, last-length, most-releases}
 use Rattle.model.specs.Rows.{outside, between, making-fault, most-tasks}
 use Rattle.model.specs.declared.fault.Part.the-variants.{Arrivals}
-use Rattle.kinds.specs.ArrivalKinds.{rounded-up, separated, separations-fault, most-spacing, delayed, used, at-most, steps-count, row-width, steps-row, stepped, entries-in-order, steps-refused, cut-rows, steps-fault}
+use Rattle.kinds.specs.ArrivalKinds.{rounded-up, separated, separations-fault, most-spacing, delayed, at-most, steps-count, row-width, steps-row, stepped, entries-in-order, steps-refused, cut-rows, steps-fault}
+use Rattle.kinds.specs.Numbers.{used}
 use Rattle.kinds.proofs.RowLaws.{row-of, for-absent, making-accepted, inside, passed}
 
 -- a quotient does not fall when the number rises

@@ -11,7 +11,7 @@ use Rattle.std.specs.declared.option.Option.{Option}
 use Rattle.std.specs.declared.option.Option.the-variants.{Some, None}
 use Rattle.std.proofs.shelf.Maps.{nth-past}
 use Rattle.std.proofs.shelf.Ways.{tells}
-use Rattle.model.specs.Faults.{_or-else_}
+use Rattle.model.specs.Choice.{_or-else_}
 use Rattle.model.specs.Rows.{for-task, outside, between, as-fault, rows-fault, making-fault, most-tasks}
 use Rattle.model.specs.declared.fault.Part.{Part}
 use Rattle.model.specs.declared.fault.Refusal.{Refusal}

@@ -15,7 +15,7 @@ use Rattle.model.specs.Rows.{outside, making-fault}
 use Rattle.model.specs.Sections.{LawfulSections, most-cost}
 use Rattle.model.specs.declared.fault.Part.the-variants.{Sections}
 use Rattle.model.specs.declared.fault.Refusal.{Refusal}
-use Rattle.kinds.specs.ArrivalKinds.{used}
+use Rattle.kinds.specs.Numbers.{used}
 use Rattle.kinds.specs.SectionKinds.{Shape, shaped, open-shape, shut-shape, floating-shape, points-shape, largest, final, open-sections, shut-sections, floating-sections, points-sections, costs-fault, floating-refused, floating-fault, segments-refused, points-refused, points-fault}
 use Rattle.kinds.specs.declared.FloatingTask.{FloatingTask}
 use Rattle.kinds.proofs.RowLaws.{row-of, for-absent, making-accepted, inside, neither}

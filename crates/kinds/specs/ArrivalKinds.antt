@@ -7,6 +7,7 @@ use lib.Dec.{leb, eqb}
 use lib.ListN.{length, take, drop, getD}
 use Rattle.std.specs.declared.option.Option.{Option}
 use Rattle.std.specs.declared.option.Option.the-variants.{Some, None}
+use Rattle.kinds.specs.Numbers.{used}
 use Rattle.model.specs.Arrivals.{ArrivalsMeaning, last-length}
 use Rattle.model.specs.Faults.{fault, no-task}
 use Rattle.model.specs.Rows.{for-task, outside, between, rows-fault, making-fault, most-tasks}
@@ -32,12 +33,6 @@ separated separations = record {
 
 abbrev pub separations-fault : List ℕ → Option Fault
 separations-fault = making-fault (outside 1 most-spacing) Arrivals
-
--- the numbers before the first 0
-abbrev pub used : List ℕ → List ℕ
-used [] = []
-used (zero ∷ xs) = []
-used (suc x ∷ xs) = suc x ∷ used xs
 
 -- how many of the numbers are at most t
 abbrev pub at-most : ℕ → List ℕ → ℕ

@@ -1,4 +1,5 @@
 pub mod Unfaulted
+pub mod Numbers
 pub mod ArrivalKinds
 pub mod OrderKinds
 pub mod SectionKinds

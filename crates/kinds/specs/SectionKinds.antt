@@ -8,9 +8,9 @@ use lib.ListN.{length, take, getD}
 use Rattle.std.specs.declared.option.Option.{Option}
 use Rattle.std.specs.declared.option.Option.the-variants.{Some, None}
 use Rattle.std.specs.shelf.Lists.{sum}
-use Rattle.kinds.specs.ArrivalKinds.{used}
+use Rattle.kinds.specs.Numbers.{used}
 use Rattle.kinds.specs.declared.FloatingTask.{FloatingTask}
-use Rattle.model.specs.Faults.{_or-else_}
+use Rattle.model.specs.Choice.{_or-else_}
 use Rattle.model.specs.Rows.{for-task, outside, making-fault}
 use Rattle.model.specs.Sections.{SectionsMeaning, most-cost}
 use Rattle.model.specs.declared.fault.Fault.{Fault}

@@ -2,7 +2,7 @@
 ghost use mathlib.Core.Path.{_≡_};
 ghost use Prim.Native.Nat.{_≤_};
 ghost use lib.ListN.{length};
-ghost use Rattle.kinds.specs.ArrivalKinds.{used};
+ghost use Rattle.kinds.specs.Numbers.{used};
 
 // The numbers before the first 0.
 pub fn used(row: &[u32]) -> &[u32]

@@ -12,7 +12,8 @@ use Rattle.std.proofs.shelf.Tests.{eq-eqb}
 use Rattle.model.specs.Analysis.{Parts, longest-window, tasks, work, counted-work, load, window, others-work, need, ready}
 use Rattle.model.specs.Arrivals.{LawfulArrivals, last-length}
 use Rattle.model.specs.Order.{InReach, within}
-use Rattle.model.specs.Sums.{when, Least-met}
+use Rattle.model.specs.Least.{Least-met}
+use Rattle.model.specs.Sums.{when}
 use Rattle.model.specs.Tables.{Lawful}
 use Rattle.model.specs.declared.released.Reach.{Reach}
 use Rattle.model.specs.declared.released.Reach.the-variants.{Ticks, NoEnd}

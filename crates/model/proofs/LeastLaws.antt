@@ -7,7 +7,7 @@ use lib.Dec.{leb}
 use Rattle.std.specs.declared.option.Option.{Option}
 use Rattle.std.specs.declared.option.Option.the-variants.{Some, None}
 use Rattle.std.proofs.shelf.Tests.{cases-eq, cases-lt, cond-both, leb-true, leb-false}
-use Rattle.model.specs.Sums.{first-met, least, Unmet, Never-met, Rises, Least-met}
+use Rattle.model.specs.Least.{first-met, least, Unmet, Never-met, Rises, Least-met}
 
 -- the search finds a least length, or none
 abbrev pub Searched : (ℕ → ℕ) → ℕ → Type 0

@@ -11,9 +11,8 @@ use Rattle.std.specs.declared.option.Option.{Option}
 use Rattle.std.specs.declared.option.Option.the-variants.{Some, None}
 use Rattle.std.proofs.shelf.Tests.{leb-true, le-leb, cond-true, cases-eq}
 use Rattle.std.proofs.shelf.Ways.{tells}
+use Rattle.model.specs.Choice.{_or-else_, if-some}
 use Rattle.model.specs.Analysis.{window, bound}
-use Rattle.model.specs.Faults.{_or-else_}
-use Rattle.model.specs.Rows.{from-row}
 use Rattle.model.specs.Tables.{Table, first-fault, sized, size-fault, deadlines-fault, task-fault, verdict, Accepted, Sized, Keeps, Accepts}
 use Rattle.model.specs.declared.fault.Fault.{Fault}
 
@@ -40,9 +39,9 @@ cond-none true x none = refl
 cond-none false x none = cc
 
 -- a row that must stand, and says none
-from-row-none : {X Y : Type 0} (row : Option X) (y : Y) (says : X → Option Y) → from-row row (Some y) says ≡ None → (x : X) × (row ≡ Some x) × (says x ≡ None)
-from-row-none (Some x) y says none = (x, refl, none)
-from-row-none None y says none = absurd (let z : _≡_ {A = ℕ} 0 1 = cc in omega arith)
+if-some-none : {X Y : Type 0} (row : Option X) (y : Y) (says : X → Option Y) → if-some row (Some y) says ≡ None → (x : X) × (row ≡ Some x) × (says x ≡ None)
+if-some-none (Some x) y says none = (x, refl, none)
+if-some-none None y says none = absurd (let z : _≡_ {A = ℕ} 0 1 = cc in omega arith)
 
 -- no tasks, no fault
 pub first-fault-zero : (at : ℕ → Option Fault) → first-fault 0 at ≡ None
@@ -114,7 +113,7 @@ module _ (t : Table) where
   -- a task without fault keeps its deadline
   pub task-keeps : (k : ℕ) → task-fault t k ≡ None → Keeps t k
   task-keeps k none =
-      let row = from-row-none (window (t .parts) k) _ (λ _. _) none in
+      let row = if-some-none (window (t .parts) k) _ (λ _. _) none in
       record { ticks = row .0; found = row .1; in-time = leb-true (bound (t .parts) k) (getD (t .deadlines) k 0) (cond-none _ _ (row .2)) }
 
   -- a task that keeps its deadline has no fault

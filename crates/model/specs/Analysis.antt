@@ -4,11 +4,12 @@ use mathlib.Core.Bool.{Bool, not, _&&_}
 use Prim.Native.Nat.{ℕ, _+_, _-_, _*_}
 use lib.Dec.{eqb, ltb}
 use Rattle.std.specs.declared.option.Option.{Option}
+use Rattle.model.specs.Choice.{if-some}
 use Rattle.model.specs.Arrivals.{ArrivalsMeaning}
 use Rattle.model.specs.Order.{OrderMeaning, within}
-use Rattle.model.specs.Rows.{from-row}
 use Rattle.model.specs.Sections.{SectionsMeaning}
-use Rattle.model.specs.Sums.{when, total, greatest, least}
+use Rattle.model.specs.Least.{least}
+use Rattle.model.specs.Sums.{when, total, greatest}
 
 -- the three parts of a table, by what they mean
 pub record Parts : Type 0 where
@@ -72,8 +73,8 @@ module _ (m : Parts) where
 
   -- the response time at offset A; no job can stand at an offset that it has passed when it is ready
   unfoldable pub response : ℕ → ℕ → ℕ
-  response i A = from-row (ready i A) 0 (λ d. when (ltb A d) (ending i d - A))
+  response i A = if-some (ready i A) 0 (λ d. when (ltb A d) (ending i d - A))
 
   -- The response-time bound of task i: the greatest response time over the offsets of its window.
   unfoldable pub bound : ℕ → ℕ
-  bound i = from-row (window i) 0 (λ w. greatest w (response i))
+  bound i = if-some (window i) 0 (λ w. greatest w (response i))

@@ -1,10 +1,8 @@
--- The number and word of each refusal, the number and word of each part, and the first of several faults.
+-- The number and word of each refusal and of each part.
 -- Cited by every call that refuses.
 use Prim.Native.Nat.{ℕ}
 use lib.Chars.{codes}
 use mathlib.Core.List.{List}
-use Rattle.std.specs.declared.option.Option.{Option}
-use Rattle.std.specs.declared.option.Option.the-variants.{Some, None}
 use Rattle.model.specs.declared.fault.Fault.{Fault}
 use Rattle.model.specs.declared.fault.Part.{Part}
 use Rattle.model.specs.declared.fault.Part.the-variants.{Arrivals, Order, Sections, Table}
@@ -43,9 +41,3 @@ no-task = 255
 
 abbrev pub fault : Refusal → Part → ℕ → Fault
 fault r p k = record { refusal = r; part = p; task = k }
-
-infixr 30 _or-else_
--- the first of two, if there is any
-abbrev pub _or-else_ : {X : Type 0} → Option X → Option X → Option X
-_or-else_ (Some f) later = Some f
-_or-else_ None later = later

@@ -1,3 +1,4 @@
+pub mod Choice
 pub mod Faults
 pub mod Shown
 pub mod Arrivals
@@ -5,6 +6,7 @@ pub mod Order
 pub mod Sections
 pub mod Rows
 pub mod Sums
+pub mod Least
 pub mod Analysis
 pub mod Tables
 pub mod Sealed

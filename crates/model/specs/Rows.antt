@@ -8,7 +8,8 @@ use lib.ListN.{length}
 use Rattle.std.specs.Finite.{nth}
 use Rattle.std.specs.declared.option.Option.{Option}
 use Rattle.std.specs.declared.option.Option.the-variants.{Some, None}
-use Rattle.model.specs.Faults.{fault, no-task, _or-else_}
+use Rattle.model.specs.Choice.{_or-else_, if-some}
+use Rattle.model.specs.Faults.{fault, no-task}
 use Rattle.model.specs.declared.fault.Fault.{Fault}
 use Rattle.model.specs.declared.fault.Part.{Part}
 use Rattle.model.specs.declared.fault.Refusal.{Refusal}
@@ -22,14 +23,9 @@ most-tasks = 16
 abbrev pub between : ℕ → ℕ → ℕ → Bool
 between low high x = leb low x && leb x high
 
--- what a row says, or `otherwise` where there is none
-abbrev pub from-row : {X Y : Type 0} → Option X → Y → (X → Y) → Y
-from-row None otherwise says = otherwise
-from-row (Some row) otherwise says = says row
-
 -- what the row of task k says, or `otherwise` for a task that has none
 abbrev pub for-task : {X Y : Type 0} → List X → ℕ → Y → (X → Y) → Y
-for-task rows k otherwise says = from-row (nth rows k) otherwise says
+for-task rows k otherwise says = if-some (nth rows k) otherwise says
 
 -- a field outside its limits
 abbrev pub outside : ℕ → ℕ → ℕ → Option Refusal

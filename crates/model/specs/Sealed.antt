@@ -7,7 +7,7 @@ use lib.ListN.{length, getD}
 use Rattle.std.specs.declared.option.Option.{Option}
 use Rattle.std.specs.declared.option.Option.the-variants.{None}
 use Rattle.model.specs.Analysis.{Parts, load, need, ending, longest-window}
-use Rattle.model.specs.Sums.{Least-met}
+use Rattle.model.specs.Least.{Least-met}
 use Rattle.model.specs.Tables.{Table}
 use Rattle.model.specs.declared.fault.Fault.{Fault}
 

@@ -8,11 +8,12 @@ use lib.Dec.{leb, ltb, eqb}
 use lib.ListN.{length, getD}
 use Rattle.std.specs.declared.option.Option.{Option}
 use Rattle.std.specs.declared.option.Option.the-variants.{Some, None}
+use Rattle.model.specs.Choice.{_or-else_, if-some}
 use Rattle.model.specs.Analysis.{Parts, window, bound}
 use Rattle.model.specs.Arrivals.{LawfulArrivals}
-use Rattle.model.specs.Faults.{fault, no-task, _or-else_}
+use Rattle.model.specs.Faults.{fault, no-task}
 use Rattle.model.specs.Order.{LawfulOrder}
-use Rattle.model.specs.Rows.{between, most-tasks, from-row, rows-fault, outside}
+use Rattle.model.specs.Rows.{between, most-tasks, rows-fault, outside}
 use Rattle.model.specs.Sections.{LawfulSections}
 use Rattle.model.specs.Sums.{when}
 use Rattle.model.specs.declared.fault.Fault.{Fault}
@@ -41,11 +42,11 @@ first-fault (suc n) at = first-fault n at or-else at n
 -- why task k misses a deadline: it has no window, or its bound is above the deadline
 abbrev pub missed : Parts → ℕ → ℕ → Option Fault
 missed m k deadline =
-    from-row (window m k) (Some (fault Overload table k)) (λ _. cond (leb (bound m k) deadline) None (Some (fault Late table k)))
+    if-some (window m k) (Some (fault Overload table k)) (λ _. cond (leb (bound m k) deadline) None (Some (fault Late table k)))
 
 -- a window as it stands on the sheet
 abbrev pub window-length : Parts → ℕ → ℕ
-window-length m k = from-row (window m k) 0 (λ w. w)
+window-length m k = if-some (window m k) 0 (λ w. w)
 
 module _ (t : Table) where
   -- one to sixteen tasks, the same in every part
@@ -73,7 +74,7 @@ module _ (t : Table) where
 
   -- a number of task k on the sheet: 0 for a task that the table does not have, and throughout a refused table
   abbrev pub on-sheet : (ℕ → ℕ) → ℕ → ℕ
-  on-sheet f k = from-row verdict (when (ltb k (length (t .deadlines))) (f k)) (λ _. 0)
+  on-sheet f k = if-some verdict (when (ltb k (length (t .deadlines))) (f k)) (λ _. 0)
 
   abbrev pub sheet-window : ℕ → ℕ
   sheet-window = on-sheet (window-length (t .parts))

@@ -7,7 +7,8 @@ use lib.ListN.{length, drop, getD}
 use Rattle.std.specs.declared.option.Option.{Option}
 use Rattle.std.specs.declared.option.Option.the-variants.{Some, None}
 use Rattle.std.proofs.shelf.Lists.{at-drop-more}
-use Rattle.model.specs.Faults.{fault, _or-else_}
+use Rattle.model.specs.Choice.{_or-else_}
+use Rattle.model.specs.Faults.{fault}
 use Rattle.model.specs.Rows.{as-fault, rows-fault}
 use Rattle.model.specs.declared.fault.Part.{Part}
 use Rattle.model.specs.declared.fault.Refusal.{Refusal}

@@ -4,7 +4,7 @@ use Prim.Native.Nat.{ℕ, _≤_, _<_}
 use native.Mathlib.Nat.{le-trans}
 use Rattle.std.proofs.shelf.Tests.{cases-lt}
 use Rattle.model.specs.Arrivals.{last-length}
-use Rattle.model.specs.Sums.{Rises, Unmet}
+use Rattle.model.specs.Least.{Rises, Unmet}
 use Rattle.model.proofs.LeastLaws.{skipped}
 
 -- where no length below d meets the demand, none below the demand at d does, as far as the limit

@@ -3,7 +3,7 @@ ghost use mathlib.Core.Path.{_≡_};
 ghost use Prim.Native.Nat.{ℕ};
 ghost use Rattle.std.specs.Options.{Cases};
 ghost use Rattle.model.specs.Arrivals.{last-length};
-ghost use Rattle.model.specs.Sums.{least, Rises, Never-met, Least-met};
+ghost use Rattle.model.specs.Least.{least, Rises, Never-met, Least-met};
 
 // How many ticks are wanted in a length of ticks, which never falls as the length grows.
 pub trait Demand {

@@ -1,6 +1,6 @@
 use borrow.Author.Needs.{needs}
 use mathlib.Core.Path.{sym}
-use Rattle.model.specs.Sums.{Never-met, Least-met}
+use Rattle.model.specs.Least.{Never-met, Least-met}
 use Rattle.model.proofs.LeastLaws.{some-least, none-least}
 use Rattle.search.proofs.Skips.{unmet-further}
 use Rattle.search.proofs.least_length.Needs as need

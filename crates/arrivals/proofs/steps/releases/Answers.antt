@@ -7,7 +7,8 @@ use native.Mathlib.Nat.{div-le-self}
 use lib.ListN.{length, drop, getD, length-take, length-drop}
 use Rattle.std.proofs.shelf.Bits.{mul-le}
 use Rattle.std.proofs.shelf.Lists.{take-rest}
-use Rattle.kinds.specs.ArrivalKinds.{used, steps-count}
+use Rattle.kinds.specs.ArrivalKinds.{steps-count}
+use Rattle.kinds.specs.Numbers.{used}
 use Rattle.kinds.proofs.ArrivalLaws.{in-time-within}
 use Rattle.arrivals.proofs.steps.releases.Needs as need
 

@@ -5,7 +5,7 @@ use Prim.Native.Nat.{ℕ, zero, suc, _<_}
 use native.Mathlib.Omega.{arith}
 use lib.ListN.{take, getD}
 use Rattle.std.proofs.shelf.Lists.{getD-past, take-all, places}
-use Rattle.kinds.specs.ArrivalKinds.{used}
+use Rattle.kinds.specs.Numbers.{used}
 use Rattle.kinds.proofs.numbers.used.Needs as need
 
 -- the numbers up to the first 0

@@ -6,7 +6,7 @@ use lib.ListN.{drop}
 use Rattle.std.specs.declared.option.Option.the-variants.{Some, None}
 use Rattle.std.proofs.shelf.Lists.{at-drop-more, at-drop-all, take-rest}
 use Rattle.std.proofs.shelf.Ways.{tells}
-use Rattle.model.specs.Faults.{_or-else_}
+use Rattle.model.specs.Choice.{_or-else_}
 use Rattle.model.specs.Rows.{outside}
 use Rattle.model.specs.Sections.{most-cost}
 use Rattle.model.specs.declared.fault.Refusal.the-variants.{Range}

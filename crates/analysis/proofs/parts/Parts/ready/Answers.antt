@@ -1,7 +1,7 @@
 use mathlib.Core.Path.{_≡_, _∙_, ap}
 use Prim.Native.Nat.{_+_}
 use Rattle.model.specs.Analysis.{ready, need as needed, own-need, others-work, longest-window}
-use Rattle.model.specs.Sums.{least}
+use Rattle.model.specs.Least.{least}
 use Rattle.analysis.specs.Meant.{meant}
 use Rattle.analysis.proofs.Searched.{found-within}
 use Rattle.analysis.proofs.parts.Parts.ready.Needs as need

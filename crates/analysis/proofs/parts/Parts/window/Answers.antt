@@ -1,7 +1,7 @@
 use mathlib.Core.Path.{_∙_, ap}
 use Prim.Native.Nat.{_+_}
 use Rattle.model.specs.Analysis.{load, window, counted-work, longest-window}
-use Rattle.model.specs.Sums.{least}
+use Rattle.model.specs.Least.{least}
 use Rattle.analysis.specs.Meant.{meant}
 use Rattle.analysis.proofs.parts.Parts.window.Needs as need
 

@@ -9,7 +9,7 @@ use Rattle.std.specs.shelf.Lists.{sum}
 use Rattle.model.specs.Rows.{outside}
 use Rattle.model.specs.Sections.{most-cost}
 use Rattle.model.specs.declared.fault.Part.the-variants.{Sections}
-use Rattle.kinds.specs.ArrivalKinds.{used}
+use Rattle.kinds.specs.Numbers.{used}
 use Rattle.kinds.specs.SectionKinds.{points-refused, segments-refused, points-fault}
 use Rattle.kinds.proofs.RowLaws.{making-accepted, neither, inside}
 use Rattle.kinds.specs.Unfaulted.{no-fault}
