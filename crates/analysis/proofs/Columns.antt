@@ -5,7 +5,7 @@ use mathlib.Core.List.{List}
 use Prim.Native.Nat.{ℕ, _+_, _<_}
 use native.Mathlib.Omega.{arith}
 use lib.Dec.{ltb}
-use lib.ListN.{length, getD, set, replicate}
+use lib.ListN.{getD, set, replicate}
 use Rattle.std.proofs.shelf.Lists.{length-set, getD-set-same, getD-set-other}
 use Rattle.std.proofs.shelf.Tests.{cases-eq, lt-ltb, le-ltb}
 use Rattle.std.proofs.shelf.Ways.{tells}

@@ -1,5 +1,5 @@
 -- A sum that a loop over the tasks runs up, on top of what it starts from: the term of each task that passes a test.
-use mathlib.Core.Path.{_≡_, ap, _∙_}
+use mathlib.Core.Path.{_≡_}
 use mathlib.Core.Bool.{Bool, true, false}
 use Prim.Native.Nat.{ℕ, _+_, _*_, _≤_}
 use native.Mathlib.Nat.{add-mul, one-mul}

@@ -1,6 +1,5 @@
 -- What a draft means: its deadlines, and what its parts mean.
 -- Cited by the contract of judging.
-use Prim.Native.Nat.{ℕ}
 use Rattle.std.specs.Of.Vec.{vec-items}
 use Rattle.model.specs.Arrivals.{ArrivalsMeaning}
 use Rattle.model.specs.Order.{OrderMeaning}

@@ -20,7 +20,6 @@ use model::order::Order;
 use model::sections::Sections;
 use rows::rule::Limits;
 use rows::rule::LimitsRule;
-use rows::rule::MOST_TASKS;
 use rows::rule::making_fault;
 
 const DEADLINES: Limits = Limits {
@@ -76,9 +75,7 @@ impl<R: Arrivals, O: Order, S: Sections> Draft<R, O, S> {
         ensures { λ r. ⌜ r ≡ (size-fault (drafted (R·Arrivals .meaning) (O·Order .meaning) (S·Sections .meaning) (now (self .entry))) or-else deadlines-fault (drafted (R·Arrivals .meaning) (O·Order .meaning) (S·Sections .meaning) (now (self .entry)))) ⌝ }
     {
         let tasks = self.deadlines.len();
-        if tasks == 0
-            || tasks > MOST_TASKS
-            || usize::from(self.arrivals.tasks()) != tasks
+        if usize::from(self.arrivals.tasks()) != tasks
             || usize::from(self.order.tasks()) != tasks
             || usize::from(self.sections.tasks()) != tasks
         {
@@ -88,6 +85,7 @@ impl<R: Arrivals, O: Order, S: Sections> Draft<R, O, S> {
                 task: NO_TASK,
             });
         }
+        // no deadlines, or more than sixteen, are a fault of size here
         making_fault(&DEADLINES, Part::Table, self.deadlines.as_slice())
     }
 }

@@ -3,14 +3,9 @@ mod edges;
 mod limits;
 mod tables;
 
-use analysis::draft::Draft;
-use analysis::judged::Judged;
-use model::arrivals::Arrivals;
 use model::fault::Fault;
 use model::fault::Part;
 use model::fault::Refusal;
-use model::order::Order;
-use model::sections::Sections;
 
 // What a making refuses, if it does.
 fn refused<T: Drop>(made: Result<T, Fault>) -> Option<Fault> {

@@ -1,18 +1,17 @@
 -- What the listed kinds of order mean, and what their makings refuse.
 -- Cited by the crate `orders` and by the reference cases.
-use mathlib.Core.Bool.{Bool, true, false, cond}
+use mathlib.Core.Bool.{true, false, cond}
 use mathlib.Core.List.{List}
 use Prim.Native.Nat.{ℕ, _+_, _-_}
 use lib.Dec.{leb, ltb}
 use lib.ListN.{length}
 use Rattle.std.specs.declared.option.Option.{Option}
-use Rattle.std.specs.declared.option.Option.the-variants.{Some, None}
+use Rattle.std.specs.declared.option.Option.the-variants.{None}
 use Rattle.model.specs.Order.{OrderMeaning}
 use Rattle.model.specs.Rows.{for-task, outside, making-fault}
 use Rattle.model.specs.declared.fault.Fault.{Fault}
 use Rattle.model.specs.declared.fault.Part.the-variants.{Order}
 use Rattle.model.specs.declared.fault.Refusal.{Refusal}
-use Rattle.model.specs.declared.released.Reach.{Reach}
 use Rattle.model.specs.declared.released.Reach.the-variants.{Ticks, NoEnd}
 
 -- what the rows of two tasks say together, or `otherwise` where one has none

@@ -1,6 +1,6 @@
 -- The busy-window analysis: from what the parts mean to the window and the response-time bound of a task.
 -- Cited by the contracts of judging and by both promises.
-use mathlib.Core.Bool.{Bool, not, _&&_}
+use mathlib.Core.Bool.{not, _&&_}
 use Prim.Native.Nat.{ℕ, _+_, _-_, _*_}
 use lib.Dec.{eqb, ltb}
 use Rattle.std.specs.declared.option.Option.{Option}

@@ -6,7 +6,7 @@ use Prim.Native.Nat.{ℕ, _-_, _≤_, _<_}
 use lib.ListN.{length, getD}
 use Rattle.std.specs.declared.option.Option.{Option}
 use Rattle.std.specs.declared.option.Option.the-variants.{None}
-use Rattle.model.specs.Analysis.{Parts, tasks, bound, longest-window}
+use Rattle.model.specs.Analysis.{tasks, bound, longest-window}
 use Rattle.model.specs.Tables.{Table, Lawful, Accepted}
 use Rattle.model.specs.declared.fault.Fault.{Fault}
 

@@ -18,7 +18,7 @@ use Rattle.model.specs.Sections.{LawfulSections}
 use Rattle.model.specs.Sums.{when}
 use Rattle.model.specs.declared.fault.Fault.{Fault}
 use Rattle.model.specs.declared.fault.Part.the-variants.{Table as table}
-use Rattle.model.specs.declared.fault.Refusal.the-variants.{Size, Range, Overload, Late}
+use Rattle.model.specs.declared.fault.Refusal.the-variants.{Size, Overload, Late}
 
 -- Deadlines and three parts.
 pub record Table : Type 0 where

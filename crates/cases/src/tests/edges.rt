@@ -7,7 +7,6 @@ use analysis::draft::Draft;
 use arrivals::separations::Separations;
 use arrivals::separations::SeparationsArrivals;
 use arrivals::steps::Steps;
-use kinds::FloatingTask;
 use model::fault::FaultDebug;
 use model::fault::FaultDisplay;
 use model::fault::FaultPartialEq;

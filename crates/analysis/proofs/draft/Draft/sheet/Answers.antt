@@ -1,11 +1,7 @@
-use mathlib.Core.Path.{sym, subst}
-use mathlib.Core.List.{List}
-use Prim.Native.Nat.{ℕ}
-use Rattle.std.specs.Results.{Cases}
+use mathlib.Core.Path.{sym}
 use Rattle.std.proofs.shelf.Results.{cases-weaker}
 use Rattle.model.proofs.VerdictLaws.{verdict-early}
 use Rattle.analysis.specs.Drafted.{drafted}
-use Rattle.analysis.specs.Sheets.{Kept-so, first-missed}
 use Rattle.analysis.proofs.Verdicts.{sheet-accepted, sheet-refused}
 use Rattle.analysis.proofs.draft.Draft.sheet.Needs as need
 

@@ -1,6 +1,5 @@
 use mathlib.Core.Path.{sym, ap, _∙_}
 use native.Mathlib.Omega.{arith}
-use Prim.Native.Nat.{_≤_}
 use Rattle.model.specs.Analysis.{response}
 use Rattle.model.specs.Sums.{greatest}
 use Rattle.model.proofs.AnalysisLaws.{window-least}
