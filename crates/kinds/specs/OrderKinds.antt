@@ -46,8 +46,8 @@ earliest-deadline deadlines = record {
 }
 
 -- the longest relative deadline
-abbrev pub most-deadline : ℕ
-most-deadline = 100000
+abbrev pub most-relative-deadline : ℕ
+most-relative-deadline = 100000
 
 abbrev pub relative-deadlines-fault : List ℕ → Option Fault
-relative-deadlines-fault = making-fault (outside 1 most-deadline) Order
+relative-deadlines-fault = making-fault (outside 1 most-relative-deadline) Order
