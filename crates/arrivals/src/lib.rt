@@ -1,4 +1,6 @@
 // The listed kinds of arrivals: how often jobs come.
+#![tactic(auto)]
+
 pub mod delay;
 pub mod separations;
 mod spacing;

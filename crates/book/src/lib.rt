@@ -1,4 +1,6 @@
 // The day book: it follows a unit command by command, on a judged table, and gives the table back with totals.
+#![tactic(auto)]
+
 pub mod books;
 mod closing;
 mod commands;

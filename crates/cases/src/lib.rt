@@ -1,4 +1,6 @@
 // The reference cases of the definitions, and a fleet's own part. The tests run the other cases and the edges.
+#![tactic(auto)]
+
 ghost use Rattle.std.specs.Prelude.{◌≡◌};
 ghost use Rattle.cases.specs.Reference.{ReferenceCases};
 

@@ -1,4 +1,6 @@
 // The sealing sheet of the built-in table, and its day book fed from standard input.
+#![tactic(auto)]
+
 ghost use Rattle.std.specs.Prelude.{◌≡◌, [], ◌∷◌, MatchResult};
 ghost use Rattle.days.specs.Days.{GoesOn};
 ghost use Rattle.book.specs.Books.{parts_of, state_of};

@@ -1,5 +1,7 @@
 // What the listed kinds of parts mean, in specs/, and that they keep the laws, in proofs/. The code of the kinds stands
 // in the crates above.
+#![tactic(auto)]
+
 pub mod numbers;
 
 // A task with floating sections: what a job costs, and how long it may run without an opening.

@@ -1,4 +1,6 @@
 // Records: the commands of a day book as bytes.
+#![tactic(auto)]
+
 pub mod fault;
 mod letters;
 mod reader;

@@ -1,4 +1,6 @@
 // The least length that meets a demand: one search for windows and for the offsets of a window.
+#![tactic(auto)]
+
 ghost use Rattle.std.specs.Prelude.{◌≡◌, ℕ, MatchOption};
 ghost use Rattle.model.specs.Arrivals.{last_length};
 ghost use Rattle.model.specs.Least.{least, Rises, NeverMet, LeastMet};

@@ -1,4 +1,6 @@
 // The listed kinds of sections: what a job costs, and where a running job may be interrupted.
+#![tactic(auto)]
+
 mod costs;
 pub mod floating_sections;
 pub mod open_sections;

@@ -1,4 +1,6 @@
 // The time and the jobs of a day, and what the commands of a day book do to both.
+#![tactic(auto)]
+
 mod obeying;
 mod permission;
 mod releasing;
