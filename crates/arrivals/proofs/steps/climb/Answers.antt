@@ -18,7 +18,7 @@ returns-then-tick-eq0 c =
     let xs = c.args.entries.now in
     let i = c.loop-place.place in
     let climbs-on = climbs c.args.repeat c.loop-place.last in
-    c.is-blank.ensures
+    c.is_blank.ensures
     ∙ ap blank (take_rest xs (i + 1))
     ∙ sym (c.loop-place.invariant ∙ at_drop_more climbs-on xs i 0 c.loop-place-test.true ∙ ap (λ x. climbs-on (x ∷ drop (i + 1) xs)) c.if-tick-eq0.true)
 

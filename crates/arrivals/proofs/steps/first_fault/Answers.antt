@@ -32,7 +32,7 @@ returns-in-Some c =
     let k = c.loop-task.task in
     let rows = cut_rows (length xs / 9) xs in
     sym
-    (sized xs c.if-numbers-ne0.false c.if-tasks-lt1.false c.if-tasks-gt-MOST-TASKS.false
+    (sized xs c.if-numbers-ne0.false c.if-tasks-lt1.false c.if-tasks-gt-MOST_TASKS.false
     ∙ c.loop-task.invariant
     ∙ fault_here steps_refused Arrivals rows k k (steps_row xs k) (omega (arith, length_cut (length xs / 9) xs)) (row_read xs k c.loop-task-test.true) c.in-Some.refusal (cc))
 
@@ -50,6 +50,6 @@ returns c =
     let k = c.loop-task.task in
     let rows = cut_rows (length xs / 9) xs in
     sym
-    (sized xs c.if-numbers-ne0.false c.if-tasks-lt1.false c.if-tasks-gt-MOST-TASKS.false
+    (sized xs c.if-numbers-ne0.false c.if-tasks-lt1.false c.if-tasks-gt-MOST_TASKS.false
     ∙ c.loop-task.invariant
     ∙ at_drop_all (rows_fault steps_refused Arrivals k) rows k (omega (arith, length_cut (length xs / 9) xs)))

@@ -17,7 +17,7 @@ returns-in-default g c =
     let book = c.args.book.now in
     let m = parts_of g.R.Arrivals.meaning g.O.Order.meaning g.S.Sections.meaning book in
     let asked = decoded (drop c.args.place c.args.bytes.now) in
-    let none : asked ≡ None = ap decoded (sym c.bytes-from.ensures) ∙ c.in-default.ensures in
+    let none : asked ≡ None = ap decoded (sym c.bytes-from.ensures) ∙ c.in_default.ensures in
     record {
       table = refl;
       answer = ap Err c.from.ensures ∙ unread_answer book.table.verdict m (state_of book) asked c.args.place c.unread.result none c.unread.ensures;

@@ -11,7 +11,7 @@ returns-in-Some g c =
 pub loop-row-preserved : goal.loop-row-preserved
 loop-row-preserved g c = (
   omega (arith, c.loop-row.invariant.0),
-  c.loop-row.invariant.1 ∙ fault_later _ _ c.args.rows.now _ _ _ c.loop-row-test.true c.row-item.is (sym c.refused.ensures ∙ c.in-default.is),
+  c.loop-row.invariant.1 ∙ fault_later _ _ c.args.rows.now _ _ _ c.loop-row-test.true c.row-item.is (sym c.refused.ensures ∙ c.in_default.is),
 )
 
 pub returns : goal.returns

@@ -29,12 +29,12 @@ returns-then-number-gt-MOST-COST c =
 
 pub returns-then-number-ne0 : goal.returns-then-number-ne0
 returns-then-number-ne0 c =
-    let step = small c.args.numbers.now c.loop-number.number-index c.loop-number-test.true c.if-number-gt-MOST-COST.false in
+    let step = small c.args.numbers.now c.loop-number.number-index c.loop-number-test.true c.if-number-gt-MOST_COST.false in
     grind (arith, nat_tests)
 
 pub loop-number-preserved : goal.loop-number-preserved
 loop-number-preserved c =
-    let step = small c.args.numbers.now c.loop-number.number-index c.loop-number-test.true c.if-number-gt-MOST-COST.false in
+    let step = small c.args.numbers.now c.loop-number.number-index c.loop-number-test.true c.if-number-gt-MOST_COST.false in
     grind (arith, nat_tests)
 
 pub returns : goal.returns

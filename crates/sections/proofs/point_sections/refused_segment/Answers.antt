@@ -25,7 +25,7 @@ pub returns-then-number-eq0 : goal.returns-then-number-eq0
 returns-then-number-eq0 c =
     let xs = c.args.row.now in
     let i = c.loop-place.place in
-    c.refused-behind.ensures
+    c.refused_behind.ensures
     ∙ ap number_behind (take_rest xs (i + 1))
     ∙ sym (c.loop-place.invariant ∙ at_drop_more segments_refused xs i 0 c.loop-place-test.true ∙ ap (λ x. segments_refused (x ∷ drop (i + 1) xs)) c.if-number-eq0.true)
 
@@ -37,7 +37,7 @@ pub loop-place-preserved : goal.loop-place-preserved
 loop-place-preserved c =
     c.loop-place.invariant
     ∙ at_drop_more segments_refused c.args.row.now c.loop-place.place 0 c.loop-place-test.true
-    ∙ within _ _ c.if-number-eq0.false c.if-number-gt-MOST-COST.false
+    ∙ within _ _ c.if-number-eq0.false c.if-number-gt-MOST_COST.false
 
 pub returns : goal.returns
 returns c = sym (c.loop-place.invariant ∙ at_drop_all segments_refused c.args.row.now c.loop-place.place c.loop-place-test.false)

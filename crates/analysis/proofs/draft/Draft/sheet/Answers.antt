@@ -11,6 +11,6 @@ returns-in-Some g c = verdict_early _ c.in-Some.fault (sym c.in-Some.ensures)
 pub returns : goal.returns
 returns g c =
     let t = drafted g.R.Arrivals.meaning g.O.Order.meaning g.S.Sections.meaning c.args.self.now in
-    let fits = sym c.in-default.ensures in
-    let found = rw c.as-slice.ensures.value at c.sheet.ensures in
+    let fits = sym c.in_default.ensures in
+    let found = rw c.as_slice.ensures.value at c.sheet.ensures in
     MatchResult-weaker c.sheet.result found (λ s kept. sheet_accepted t fits s.windows s.bounds kept) (sheet_refused t fits)

@@ -11,4 +11,4 @@ pub returns-in-default : goal.returns-in-default
 returns-in-default g c = sym (response_passed _ _ c.args.offset c.in-Some.ready (sym c.in-Some.ensures.value) c.if-ready-offset.false)
 
 pub returns-in-default·2 : goal.returns-in-default·2
-returns-in-default·2 g c = sym (response_never _ _ c.args.offset (sym c.in-default.ensures.value))
+returns-in-default·2 g c = sym (response_never _ _ c.args.offset (sym c.in_default.ensures.value))

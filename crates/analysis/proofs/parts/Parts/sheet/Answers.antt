@@ -13,4 +13,4 @@ returns-in-err-times g c =
     rw (p.1, p.2) (first_fault_found _ c.loop-task.task _ _ c.loop-task-test.true c.loop-task.invariant.clear c.in-err-times.ensures)
 
 pub loop-task-preserved : goal.loop-task-preserved
-loop-task-preserved g c = kept_more _ _ c.loop-task.task _ _ _ _ c.loop-task.invariant (search rules) c.in-ok-times.ensures
+loop-task-preserved g c = kept_more _ _ c.loop-task.task _ _ _ _ c.loop-task.invariant (search rules) c.in_ok-times.ensures

@@ -8,4 +8,4 @@ pub returns : goal.returns
 unfolding window load
 returns g c =
     let m = meant g.R.Arrivals.meaning g.O.Order.meaning g.S.Sections.meaning c.args.self in
-    c.least-length.ensures.value ∙ ap (λ blocking. least (λ d. blocking + counted_work m c.args.task d) longest_window) c.blocked.ensures
+    c.least_length.ensures.value ∙ ap (λ blocking. least (λ d. blocking + counted_work m c.args.task d) longest_window) c.blocked.ensures

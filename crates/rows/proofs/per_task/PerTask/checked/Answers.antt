@@ -12,5 +12,5 @@ loop-task-preserved g c = (
 pub returns : goal.returns
 returns g c = (
   copied_all c.args.rows.now c.loop-task.copies c.loop-task.task (omega arith) c.loop-task.invariant.1,
-  sym c.making_fault.ensures ∙ c.in-default.is,
+  sym c.making_fault.ensures ∙ c.in_default.is,
 )

@@ -8,7 +8,7 @@ use Rattle.timeline.proofs.state.Timeline.serve.Goals as goal
 
 pub returns-in-default : goal.returns-in-default
 returns-in-default g c =
-    let none = place_none (pending c.args.task) (vec_items c.args.self.now.jobs) 0 (rw (sym c.as-slice.ensures.value) (sym c.in-default.ensures)) in
+    let none = place_none (pending c.args.task) (vec_items c.args.self.now.jobs) 0 (rw (sym c.as-slice.ensures.value) (sym c.in_default.ensures)) in
     let m = meant g.R.Arrivals.meaning g.O.Order.meaning g.S.Sections.meaning c.args.parts in
     record {
       answer = ap Some c.refusal-in-default.ensures ∙ sym (serve_absent m (held_by c.args.self.now) c.args.mark c.args.task (omega (arith, c.if-task-tasks.false, c.tasks.ensures)) c.if-self-ge-LAST-TICK.false none);
@@ -57,7 +57,7 @@ returns g c =
     let m = meant g.R.Arrivals.meaning g.O.Order.meaning g.S.Sections.meaning c.args.parts in
     record {
       answer =
-          ap (about c.args.task) c.in-default-obstacle.ensures
+          ap (about c.args.task) c.in_default-obstacle.ensures
           ∙ sym (serve_obstacle m (held_by c.args.self.now) c.args.mark c.args.task (omega (arith, c.if-task-tasks.false, c.tasks.ensures)) c.if-self-ge-LAST-TICK.false x (placed.is_first ∙ ap Some (sym c.index.ensures)));
       left =
           ap (λ jobs. record { now = c.args.self.now.now + 1; jobs = jobs })
