@@ -10,8 +10,8 @@ use Rattle.arrivals.proofs.steps.releases.Goals as goal
 put_together : (row : List ℕ) (d repeat : ℕ) (entries : List ℕ) (result : ℕ) → repeat ≡ max 1 (get_or row 0 0) → entries ≡ used (drop 1 row) → result ≡ max 1 (steps_count repeat entries d) → result ≡ max 1 (steps_count (max 1 (get_or row 0 0)) (used (drop 1 row)) d)
 put_together row d repeat entries result r e is = rw (← r, ← e) is
 
-pub overflow-add-entries : goal.overflow-add-entries
-overflow-add-entries c =
+pub overflow_add-entries : goal.overflow_add-entries
+overflow_add-entries c =
     let row = c.args.row.now in
     let entries = c.used-entries.result.now in
     let whole = c.from-whole.result in

@@ -23,9 +23,9 @@ module _ (xs : List ℕ) (i : ℕ) (here : i < length xs) where
       let passes : outside 0 most_cost (get_or xs i 0) ≡ None = grind (arith, nat_tests) in
       if_small ∙ ap (λ o. o or_else cond (eqb (get_or xs i 0) 0) (number_behind (drop (i + 1) xs)) (Some Order)) passes
 
-pub returns-then-number-gt-MOST-COST : goal.returns-then-number-gt-MOST-COST
-returns-then-number-gt-MOST-COST c =
-    sym (c.loop-number.invariant ∙ large c.args.numbers.now c.loop-number.number-index c.loop-number-test.true c.if-number-gt-MOST-COST.true)
+pub returns-then-number-gt-MOST_COST : goal.returns-then-number-gt-MOST_COST
+returns-then-number-gt-MOST_COST c =
+    sym (c.loop-number.invariant ∙ large c.args.numbers.now c.loop-number.number-index c.loop-number-test.true c.if-number-gt-MOST_COST.true)
 
 pub returns-then-number-ne0 : goal.returns-then-number-ne0
 returns-then-number-ne0 c =

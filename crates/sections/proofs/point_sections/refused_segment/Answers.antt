@@ -29,9 +29,9 @@ returns-then-number-eq0 c =
     ∙ ap number_behind (take_rest xs (i + 1))
     ∙ sym (c.loop-place.invariant ∙ at_drop_more segments_refused xs i 0 c.loop-place-test.true ∙ ap (λ x. segments_refused (x ∷ drop (i + 1) xs)) c.if-number-eq0.true)
 
-pub returns-then-number-gt-MOST-COST : goal.returns-then-number-gt-MOST-COST
-returns-then-number-gt-MOST-COST c =
-    sym (c.loop-place.invariant ∙ at_drop_more segments_refused c.args.row.now c.loop-place.place 0 c.loop-place-test.true ∙ large _ _ c.if-number-gt-MOST-COST.true)
+pub returns-then-number-gt-MOST_COST : goal.returns-then-number-gt-MOST_COST
+returns-then-number-gt-MOST_COST c =
+    sym (c.loop-place.invariant ∙ at_drop_more segments_refused c.args.row.now c.loop-place.place 0 c.loop-place-test.true ∙ large _ _ c.if-number-gt-MOST_COST.true)
 
 pub loop-place-preserved : goal.loop-place-preserved
 loop-place-preserved c =

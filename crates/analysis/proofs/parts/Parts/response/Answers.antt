@@ -7,8 +7,8 @@ returns-in-Some g c =
     ap (λ tail. c.in-Some.ready + tail - 1 - c.args.offset) c.tail.ensures
     ∙ sym (response_later _ _ c.args.offset c.in-Some.ready (sym c.in-Some.ensures.value) c.if-ready-offset.true)
 
-pub returns-in-default : goal.returns-in-default
-returns-in-default g c = sym (response_passed _ _ c.args.offset c.in-Some.ready (sym c.in-Some.ensures.value) c.if-ready-offset.false)
+pub returns-in_default : goal.returns-in_default
+returns-in_default g c = sym (response_passed _ _ c.args.offset c.in-Some.ready (sym c.in-Some.ensures.value) c.if-ready-offset.false)
 
-pub returns-in-default·2 : goal.returns-in-default·2
-returns-in-default·2 g c = sym (response_never _ _ c.args.offset (sym c.in_default.ensures.value))
+pub returns-in_default-2 : goal.returns-in_default-2
+returns-in_default-2 g c = sym (response_never _ _ c.args.offset (sym c.in_default.ensures.value))

@@ -7,10 +7,10 @@ use Rattle.analysis.proofs.parts.Parts.sheet.Goals as goal
 pub loop-task-init : goal.loop-task-init
 loop-task-init g c = record { clear = first_fault_zero _; windows_so = filled_none _; bounds_so = filled_none _ }
 
-pub returns-in-err-times : goal.returns-in-err-times
-returns-in-err-times g c =
-    let p = err_from_is_err_and c.from-residual.result c.from-residual.ensures.1 in
-    rw (p.1, p.2) (first_fault_found _ c.loop-task.task _ _ c.loop-task-test.true c.loop-task.invariant.clear c.in-err-times.ensures)
+pub returns-in_err-times : goal.returns-in_err-times
+returns-in_err-times g c =
+    let p = err_from_is_err_and c.from_residual.result c.from_residual.ensures.1 in
+    rw (p.1, p.2) (first_fault_found _ c.loop-task.task _ _ c.loop-task-test.true c.loop-task.invariant.clear c.in_err-times.ensures)
 
 pub loop-task-preserved : goal.loop-task-preserved
 loop-task-preserved g c = kept_more _ _ c.loop-task.task _ _ _ _ c.loop-task.invariant (search rules) c.in_ok-times.ensures

@@ -14,8 +14,8 @@ small g c =
     rw (value g c)
     (work_bounded (g.R.Arrivals.meaning c.args.self.arrivals.now) (g.S.Sections.meaning c.args.self.sections.now) (g.R.Arrivals.lawful c.args.self.arrivals.now) (g.S.Sections.lawful c.args.self.sections.now) c.args.task c.args.length (search rules))
 
-pub overflow-mul-result : goal.overflow-mul-result
-overflow-mul-result g c = let s = small g c in search rules
+pub overflow_mul-result : goal.overflow_mul-result
+overflow_mul-result g c = let s = small g c in search rules
 
 pub returns : goal.returns
 returns g c = record { value = value g c; bound = small g c }

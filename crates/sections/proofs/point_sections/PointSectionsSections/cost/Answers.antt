@@ -16,7 +16,7 @@ cost_within rows none k row at =
     let (_, in_all) = neither (segments_refused row) _ behind in
     (inside 1 most_cost (sum (used row)) in_all).1
 
-pub overflow-cast-result : goal.overflow-cast-result
-overflow-cast-result c =
+pub overflow_cast-result : goal.overflow_cast-result
+overflow_cast-result c =
     let small = cost_within _ (no_fault _ c.args.self.now.faultless) c.args.task c.in-Some.row (sym c.get.ensures ∙ c.in-Some.is) in
     search rules
