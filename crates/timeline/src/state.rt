@@ -13,9 +13,9 @@ pub const LAST_TICK: u32 = 1_000_000;
 pub struct Timeline {
     pub(crate) now: u32,
     pub(crate) jobs: Vec<Job>,
-    ghost short: { (λ x. x.now) ≤ 1000000 },
+    ghost short: { now ≤ 1000000 },
     ghost few: { vec_len jobs ≤ 512 },
     ghost reserved: { 512 ≤ vec_capacity jobs },
     // nothing in a job counts more ticks than have passed
-    ghost past: { (n : ℕ) (d : TheJob) → n < vec_len jobs → latest (slice_index_or jobs.items n d) ≤ (λ x. x.now) },
+    ghost past: { (n : ℕ) (d : TheJob) → n < vec_len jobs → latest (slice_index_or jobs.items n d) ≤ now },
 }

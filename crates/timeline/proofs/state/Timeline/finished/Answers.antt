@@ -8,5 +8,5 @@ use Rattle.timeline.proofs.state.Timeline.finished.Goals as goal
 pub returns : goal.returns
 returns c =
     c.how_many.ensures.value
-    ∙ ap (how_many (λ j. ended c.args.task (shown j))) c.as-slice.ensures.value
+    ∙ ap (how_many (λ j. ended c.args.task (shown j))) c.as_slice.ensures.value
     ∙ sym (how_many_map shown (ended c.args.task) (vec_items c.args.self.now.jobs))

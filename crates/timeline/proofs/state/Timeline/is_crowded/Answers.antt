@@ -10,7 +10,7 @@ returns-then-any g c =
     let t = c.args.self.now in
     let m = meant g.R.Arrivals.meaning g.O.Order.meaning g.S.Sections.meaning c.args.parts in
     let test = crowding_more m c.args.task t.now (vec_items t.jobs) in
-    let earlier : true ≡ any test (vec_items t.jobs) = rw (sym c.as-slice-jobs.ensures.value) c.if-any.ensures in
+    let earlier : true ≡ any test (vec_items t.jobs) = rw (sym c.as_slice-jobs.ensures.value) c.if-any.ensures in
     c.if-any.true ∙ ap (λ b. b || test (new_job c.args.task t.now)) earlier
     ∙ sym (crowds_more m c.args.task t.now (vec_items t.jobs) (λ n d within. omega (arith, t.past n d (omega (arith, t.jobs.ok.0)))))
 
@@ -19,7 +19,7 @@ returns-else-any g c =
     let t = c.args.self.now in
     let m = meant g.R.Arrivals.meaning g.O.Order.meaning g.S.Sections.meaning c.args.parts in
     let test = crowding_more m c.args.task t.now (vec_items t.jobs) in
-    let earlier : false ≡ any test (vec_items t.jobs) = rw (sym c.as-slice-jobs.ensures.value) c.if-any.ensures in
-    let itself : c.holds.result ≡ test (new_job c.args.task t.now) = rw (sym c.as-slice-jobs.ensures.value) (c.holds.ensures ∙ ap (crowding_more m c.args.task t.now c.as-slice-jobs.result.now) c.released-at.ensures) in
+    let earlier : false ≡ any test (vec_items t.jobs) = rw (sym c.as_slice-jobs.ensures.value) c.if-any.ensures in
+    let itself : c.holds.result ≡ test (new_job c.args.task t.now) = rw (sym c.as_slice-jobs.ensures.value) (c.holds.ensures ∙ ap (crowding_more m c.args.task t.now c.as_slice-jobs.result.now) c.released_at.ensures) in
     ap₂ (λ b r. b || r) earlier itself
     ∙ sym (crowds_more m c.args.task t.now (vec_items t.jobs) (λ n d within. omega (arith, t.past n d (omega (arith, t.jobs.ok.0)))))

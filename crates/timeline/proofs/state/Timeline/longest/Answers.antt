@@ -8,5 +8,5 @@ use Rattle.timeline.proofs.state.Timeline.longest.Goals as goal
 pub returns : goal.returns
 returns c =
     c.longest_time.ensures
-    ∙ ap (greatest_of (λ j. time c.args.task (shown j))) c.as-slice.ensures.value
+    ∙ ap (greatest_of (λ j. time c.args.task (shown j))) c.as_slice.ensures.value
     ∙ sym (greatest_of_map shown (time c.args.task) (vec_items c.args.self.now.jobs))
