@@ -28,7 +28,7 @@ impl<R: Arrivals, O: Order, S: Sections> Book<R, O, S> {
 }
 
 fn totals(timeline: &Timeline) -> Totals
-    ensures { Totalled (viewed (held_by timeline.now)) result }
+    ensures { Totalled (viewed (held_by timeline.entry.now)) result }
 {
     let mut finished = [0; 16];
     let mut longest = [0; 16];
