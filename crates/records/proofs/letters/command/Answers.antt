@@ -5,7 +5,7 @@ use Rattle.records.proofs.Fronts.{begins_task, begins_idling}
 use Rattle.records.proofs.letters.command.Goals as goal
 
 pub returns-in-73 : goal.returns-in-73
-returns-in-73 c = begins_idling c.args.bytes.now c.from-be-bytes.result (search rules) (search rules) c.from-be-bytes.ensures
+returns-in-73 c = begins_idling c.args.bytes.now c.from_be_bytes.result (search rules) (search rules) c.from_be_bytes.ensures
 
 pub returns-in-82 : goal.returns-in-82
 returns-in-82 c = begins_task 82 Release (λ k. refl) (λ rest. refl) c.args.bytes.now (search rules) (search rules)
