@@ -9,7 +9,7 @@ returns c =
     let same = c.new-4.ensures in
     built_in_judged (vec_items draft.deadlines) (kept draft.arrivals.rows) (kept draft.order.rows) (kept draft.sections.rows) _ _ _
     (ap vec_items same.deadlines ∙ c.requires)
-    (ap (λ part. kept part.rows) same.arrivals ∙ c.in-ok-arrivals.ensures.0)
-    (ap (λ part. kept part.rows) same.order ∙ c.in-ok-order.ensures.0 ∙ c.as-slice.ensures.value ∙ c.requires)
-    (ap (λ part. kept part.rows) same.sections ∙ c.in-ok-sections.ensures.0)
+    (ap (λ part. kept part.rows) same.arrivals ∙ c.in_ok-arrivals.ensures.0)
+    (ap (λ part. kept part.rows) same.order ∙ c.in_ok-order.ensures.0 ∙ c.as_slice.ensures.value ∙ c.requires)
+    (ap (λ part. kept part.rows) same.sections ∙ c.in_ok-sections.ensures.0)
     c.judge.ensures.sheet

@@ -3,8 +3,8 @@ use Rattle.book.specs.Books.{state_of}
 use Rattle.daybook.proofs.GoingOn.{goes_on_call}
 use Rattle.daybook.proofs.follow.Goals as goal
 
-pub returns-in-err-println : goal.returns-in-err-println
-returns-in-err-println g c =
+pub returns-in_err-println : goal.returns-in_err-println
+returns-in_err-println g c =
     let call = c.obey.ensures in
     let inv = c.loop-place.invariant in
     record {
