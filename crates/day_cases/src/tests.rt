@@ -71,7 +71,7 @@ fn open<R: Arrivals + Drop, O: Order + Drop, S: Sections + Drop>(
     order: O,
     sections: S,
 ) -> Result<Book<R, O, S>, Fail> {
-    let storage = JobStorage::reserve(deadlines.allocator())?;
+    let storage = JobStorage::reserve(*deadlines.allocator())?;
     let table = Draft::new(deadlines, arrivals, order, sections).judge();
     Ok(Book::open(table, storage))
 }
