@@ -1,7 +1,7 @@
 -- Bytes that begin with a letter and its operand.
 use Rattle.std.proofs.Common.{◌≡◌, ℕ, ◌+◌, ◌-◌, ◌*◌, ◌≤◌, List, [], ◌∷◌, length, get_or, take, drop, Some, ap, ◌∙◌, arith}
 use Rattle.std.proofs.lemmas.List.{take_all, length-drop}
-use Rattle.days.specs.Records.{decoded, on_task, idling, idle_letter, width}
+use Rattle.days.specs.Records.{decoded, on_task, idle_letter, width}
 use Rattle.days.specs.declared.command.Command.{Command}
 use Rattle.days.specs.declared.command.Command.TheVariants.{Idle}
 use Rattle.records.specs.Read.{Begins}

@@ -8,8 +8,8 @@ invariant_of-self g c =
     let t = c.args.self.now in
     let v = c.push_reserved.new.self in
     let pushed =
-        AllWithin-push (λ j. latest j ≤ t.now) (vec_items t.jobs) c.released_at-job.result
-        (λ k e low high. t.past k e (omega (arith, t.jobs.ok.0))) (rw c.released_at-job.ensures (omega arith)) in
+    AllWithin-push (λ j. latest j ≤ t.now) (vec_items t.jobs) c.released_at-job.result
+    (λ k e low high. t.past k e (omega (arith, t.jobs.ok.0))) (rw c.released_at-job.ensures (omega arith)) in
     record {
       short = search rules;
       few = search rules;
