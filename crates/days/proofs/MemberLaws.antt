@@ -1,7 +1,7 @@
 -- Members of a list: what the tests over a list say of each, what the first that passes is, and what holds of every
 -- member of a list that is longer by one or changed in one place.
 use Rattle.std.proofs.Common.{◌≡◌, ℕ, Bool, true, false, List, [], ◌∷◌, ◌++◌, Some, sym, refl, subst, inl, inr, ⊎_elim, arith}
-use Rattle.std.specs.List.{AllByRecursion as All}
+use Rattle.std.specs.List.{AllByRecursion}
 use Rattle.std.proofs.lemmas.Bool.{cases_Bool, or_parts, false≢true, both_ways}
 use Rattle.days.specs.Lists.{any, first, change_first}
 use Rattle.days.proofs.Members.{In}
@@ -91,11 +91,11 @@ module _ {X : Type 0} where
         (cases_Bool (p z))
 
     -- what holds of every member holds of all
-    pub all_from_in : (xs : List X) → ((x : X) → In x xs → P x) → All P xs
+    pub all_from_in : (xs : List X) → ((x : X) → In x xs → P x) → AllByRecursion P xs
     all_from_in [] each = tt
     all_from_in (y ∷ ys) each = (each y (inl refl), all_from_in ys (λ x there. each x (inr there)))
 
     -- what holds of all holds of every member
-    pub in_from_all : (xs : List X) → All P xs → (x : X) → In x xs → P x
+    pub in_from_all : (xs : List X) → AllByRecursion P xs → (x : X) → In x xs → P x
     in_from_all [] every x member = absurd member
     in_from_all (y ∷ ys) every x member = ⊎_elim (λ here. rw here every.0) (in_from_all ys every.1 x) member

@@ -1,7 +1,7 @@
 -- The promise: no day is worse than the sheet. And the totals of a day.
 -- Cited by opening and by closing.
 use Rattle.std.specs.Prelude.{ℕ, ◌-◌, ◌<◌, ◌≤◌, Bool, not, ◌&&◌, List, Some, None, Option, ◌==◌}
-use Rattle.std.specs.List.{AllByRecursion as All}
+use Rattle.std.specs.List.{AllByRecursion}
 use Rattle.model.specs.Analysis.{bound}
 use Rattle.model.specs.Choice.{if_some}
 use Rattle.model.specs.Lighter.{Lighter}
@@ -22,7 +22,7 @@ InTime bounds now j = AtMost (bounds j.task) j.took (now - j.release)
 
 -- Every job of a day keeps these bounds.
 abbrev pub KeepsBounds : (ℕ → ℕ) → Reading → Type 0
-KeepsBounds bounds r = All (InTime bounds r.now) r.jobs
+KeepsBounds bounds r = AllByRecursion (InTime bounds r.now) r.jobs
 
 -- No day of a book on a table is worse than its sheet: whatever calls are made on the book from its opening on.
 abbrev pub NoDayWorse : Table → Option Fault → Type 0
