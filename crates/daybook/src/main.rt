@@ -26,10 +26,10 @@ type BuiltIn = Judged<Separations, EarliestDeadline, OpenSections>;
 
 fn main(rt: HostRuntime) -> anyhow::Result<()> {
     let deadlines = vec![in rt.alloc(); 4, 7]?;
-    let storage = JobStorage::reserve(rt.alloc())?;
     match built_in(deadlines) {
         Ok(table) => {
             print_sheet(&rt, &table)?;
+            let storage = JobStorage::reserve(rt.alloc())?;
             let mut record = Vec::new(rt.alloc());
             rt.stdin().read_to_end(&mut record)?;
             let mut book = Book::open(table, storage);

@@ -9,7 +9,7 @@ use Rattle.records.specs.Placed.{reads_on, next_place, read_answer}
 
 module _ (verdict : Option Fault) (m : Parts) (s : State) where
   -- bytes that are no command are not gone past
-  stops : (IfSome : Option Fault) (f : Fault) → Some f ≡ answer IfSome m s None → reads_on f.refusal ≡ false
+  stops : (found : Option Fault) (f : Fault) → Some f ≡ answer found m s None → reads_on f.refusal ≡ false
   stops None f is = let same : f ≡ no_command = cc in rw same
   stops (Some why) f is = let same : f ≡ unfit = cc in rw same
 
