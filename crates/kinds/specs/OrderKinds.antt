@@ -1,6 +1,6 @@
 -- What the listed kinds of order mean, and what their makings refuse.
 -- Cited by the crate `orders` and by the reference cases.
-use Rattle.std.specs.Prelude.{ℕ, ◌+◌, ◌-◌, true, false, cond, leb, List, length, None, Option, nat_le, nat_lt}
+use Rattle.std.specs.Prelude.{ℕ, ◌+◌, ◌-◌, true, false, cond, List, length, None, Option, nat_le, nat_lt}
 use Rattle.model.specs.Order.{OrderMeaning}
 use Rattle.model.specs.Rows.{for_task, outside, making_fault}
 use Rattle.model.specs.declared.fault.Fault.{Fault}
@@ -16,9 +16,9 @@ for_both rows i o otherwise says = for_task rows i otherwise (λ x. for_task row
 abbrev pub fixed_priority : List ℕ → OrderMeaning
 fixed_priority urgencies = record {
   tasks = length urgencies;
-  ahead = λ j l. for_both urgencies j.task l.task false (λ own other. leb other own);
+  ahead = λ j l. for_both urgencies j.task l.task false (λ own other. nat_le other own);
   reach = λ i o A. for_both urgencies i o (Ticks 0) (λ own other. cond (nat_le own other) NoEnd (Ticks 0));
-  counted = λ i o. for_both urgencies i o false (λ own other. leb own other);
+  counted = λ i o. for_both urgencies i o false (λ own other. nat_le own other);
   blocks = λ i l. for_both urgencies i l false (λ own lower. nat_lt lower own);
 }
 
@@ -33,7 +33,7 @@ urgencies_fault = making_fault urgency_refused Order
 abbrev pub earliest_deadline : List ℕ → OrderMeaning
 earliest_deadline deadlines = record {
   tasks = length deadlines;
-  ahead = λ j l. for_both deadlines j.task l.task false (λ own other. leb (j.at + own) (l.at + other));
+  ahead = λ j l. for_both deadlines j.task l.task false (λ own other. nat_le (j.at + own) (l.at + other));
   reach = λ i o A. for_both deadlines i o (Ticks 0) (λ own other. Ticks (A + 1 + own - other));
   counted = λ i o. for_both deadlines i o false (λ own other. true);
   blocks = λ i l. for_both deadlines i l false (λ own lower. nat_lt own lower);
