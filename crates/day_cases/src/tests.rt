@@ -29,7 +29,7 @@ use std::process::Abort;
 use std::test::Fail;
 use timeline::storage::JobStorage;
 
-// The record that the program is run on: R 0, O 0, I 1 and D 0.
+// The record that the README shows: R 0, O 0, I 1 and D 0.
 const NINE_BYTES: [u8; 9] = *b"R\0O\0I\0\x01D\0";
 
 type EarliestFirst<S> = Book<Separations, EarliestDeadline, S>;

@@ -118,3 +118,6 @@ fn print_jobs<R, O, S>(rt: &HostRuntime, book: &Book<R, O, S>) -> io::Result<()>
     }
     Ok(())
 }
+
+#[cfg(test)]
+mod tests;

@@ -1,4 +1,4 @@
-// The nine bytes that the program is run on: two ticks of one job, and between them an idling that is refused.
+// The nine bytes that the README shows: two ticks of one job, and between them an idling that is refused.
 use super::*;
 
 // The job is unfinished at the idling, so that idling is behind; no tick passes, and the record is read past it.
