@@ -5,5 +5,6 @@
 pub mod arrivals;
 pub mod fault;
 pub mod order;
+pub mod parts;
 pub mod released;
 pub mod sections;
