@@ -1,38 +1,45 @@
 -- The columns of the sheet, filled task by task.
-use Rattle.std.proofs.Common.{◌≡◌, ℕ, ◌+◌, ◌<◌, ltb, List, get_or, set, replicate, sym, refl, ap, ◌∙◌, ⊎_elim, arith}
-use Rattle.std.proofs.lemmas.List.{length-set, get_or-set_same, get_or-set_other}
-use Rattle.std.proofs.lemmas.Bool.{cases_eq, lt-ltb, le-ltb}
-use Rattle.std.proofs.lemmas.Bool.Decides.{nat_tests}
+use Rattle.std.proofs.Common.{◌≡◌, ℕ, ◌+◌, ◌<◌, ltb, List, [], ◌∷◌, ◌++◌, get_or, map, refl, ◌∙◌, ⊎_elim, arith}
+use Rattle.std.proofs.lemmas.List.{length-append, map-append, get_or_append_left, get_or_past}
+use Rattle.std.proofs.lemmas.Bool.{cases_lt, lt-ltb, le-ltb}
+use Rattle.std.proofs.Math.Seq.{get_or-append_seam}
 use Rattle.model.specs.Analysis.{Parts, bound}
 use Rattle.model.specs.Sums.{when}
 use Rattle.model.specs.Tables.{window_length}
-use Rattle.model.proofs.JudgedLaws.{blank_column}
 use Rattle.model.proofs.VerdictLaws.{first_fault_clear}
 use Rattle.analysis.specs.Sheets.{Filled, KeptSo, Timely}
+use Rattle.analysis.specs.declared.sheet.Times.{Times}
 
--- one task more does not change what is said of another
-same_test : (k n x : ℕ) → (k ≡ n → ⊥) → when (ltb k n) x ≡ when (ltb k (n + 1)) x
-same_test k n x apart = ap (λ b. when b x) (grind (arith, nat_tests))
+pub filled_none : (f : ℕ → ℕ) → Filled f 0 []
+filled_none f = record { full = refl; each = λ k below. absurd (omega arith) }
 
-pub filled_none : (f : ℕ → ℕ) → Filled f 0 (replicate 16 0)
-filled_none f = record { full = refl; each = λ k. blank_column 16 k ∙ ap (λ b. when b (f k)) (sym (le-ltb k 0 (omega arith))) }
-
-pub filled_more : (f : ℕ → ℕ) (n x : ℕ) (column : List ℕ) → Filled f n column → n < 16 → x ≡ f n → Filled f (n + 1) (set column n x)
-filled_more f n x column so_far room is =
+pub filled_more : (f : ℕ → ℕ) (n x : ℕ) (column : List ℕ) → Filled f n column → x ≡ f n → Filled f (n + 1) (column ++ x ∷ [])
+filled_more f n x column so_far is =
     record {
-      full = length-set column n x ∙ so_far.full;
-      each = λ k. ⊎_elim (λ same. here k same) (λ apart. get_or-set_other column n k x 0 apart ∙ so_far.each k ∙ same_test k n (f k) apart) (cases_eq k n);
+      full = omega (arith, length-append column (x ∷ []), so_far.full);
+      each = λ k below. ⊎_elim (earlier k) (λ past. last k (omega arith)) (cases_lt k n);
     }
   where
-    here : (k : ℕ) → k ≡ n → get_or (set column n x) k 0 ≡ when (ltb k (n + 1)) (f k)
-    here k same =
-        rw (same, get_or-set_same column n x 0 (omega (arith, so_far.full)), lt-ltb n (n + 1) (omega arith)) is
+    earlier : (k : ℕ) → k < n → get_or (column ++ x ∷ []) k 0 ≡ f k
+    earlier k before = get_or_append_left column (x ∷ []) 0 k (omega (arith, so_far.full)) ∙ so_far.each k before
+
+    last : (k : ℕ) → k ≡ n → get_or (column ++ x ∷ []) k 0 ≡ f k
+    last k same = rw (same, ← so_far.full, get_or-append_seam column x [] 0, so_far.full) is
+
+-- a look at any place of a filled column
+pub filled_at : (f : ℕ → ℕ) (n : ℕ) (column : List ℕ) → Filled f n column → (k : ℕ) → get_or column k 0 ≡ when (ltb k n) (f k)
+filled_at f n column filled k =
+    ⊎_elim (λ before. rw (lt-ltb k n before) (filled.each k before)) (λ past. rw (le-ltb k n past) (get_or_past column k 0 (omega (arith, filled.full)))) (cases_lt k n)
 
 -- one task more that keeps its deadline
-pub kept_more : (m : Parts) (deadlines : List ℕ) (n ticks most : ℕ) (windows bounds : List ℕ) → KeptSo m deadlines n windows bounds → n < 16 → Timely m n (get_or deadlines n 0) ticks most → KeptSo m deadlines (n + 1) (set windows n ticks) (set bounds n most)
-kept_more m deadlines n ticks most windows bounds so_far room timely =
-    record {
+pub kept_more : (m : Parts) (deadlines : List ℕ) (n : ℕ) (times : List Times) (t : Times) →
+    KeptSo m deadlines n (map (λ (t : Times). t.window) times) (map (λ (t : Times). t.bound) times)
+    → Timely m n (get_or deadlines n 0) t.window t.bound
+    → KeptSo m deadlines (n + 1) (map (λ (t : Times). t.window) (times ++ t ∷ [])) (map (λ (t : Times). t.bound) (times ++ t ∷ []))
+kept_more m deadlines n times t so_far timely =
+    rw (map-append (λ (t : Times). t.window) times (t ∷ []), map-append (λ (t : Times). t.bound) times (t ∷ []))
+    (record {
       clear = first_fault_clear n _ so_far.clear timely.kept;
-      windows_so = filled_more (window_length m) n ticks windows so_far.windows_so room (rw timely.by_window);
-      bounds_so = filled_more (bound m) n most bounds so_far.bounds_so room timely.by_bound;
-    }
+      windows_so = filled_more (window_length m) n t.window _ so_far.windows_so (rw timely.by_window);
+      bounds_so = filled_more (bound m) n t.bound _ so_far.bounds_so timely.by_bound;
+    })

@@ -1,4 +1,3 @@
-pub mod Meant
 pub mod Drafted
-pub mod Lent
+pub mod Judgement
 pub mod Sheets

@@ -1,8 +1,7 @@
 -- The columns of a sheet, and what they say of tasks that all keep their deadlines.
 -- Cited by the contracts below judging.
-use Rattle.std.specs.Prelude.{◌≡◌, ℕ, List, length, Some, None, Option, nat_lt, slice_index}
+use Rattle.std.specs.Prelude.{◌≡◌, ℕ, ◌<◌, List, length, Some, None, Option, slice_index}
 use Rattle.model.specs.Analysis.{Parts, window, bound}
-use Rattle.model.specs.Sums.{when}
 use Rattle.model.specs.Tables.{missed, window_length, first_fault}
 use Rattle.model.specs.declared.fault.Fault.{Fault}
 
@@ -16,10 +15,10 @@ pub record Timely (m : Parts) (k deadline ticks most : ℕ) : Type 0 where
 abbrev pub first_missed : Parts → List ℕ → ℕ → Option Fault
 first_missed m deadlines n = first_fault n (λ k. missed m k (slice_index deadlines k))
 
--- sixteen numbers: those of the first n tasks, and 0 behind them
+-- the numbers of the first n tasks
 pub record Filled (f : ℕ → ℕ) (n : ℕ) (column : List ℕ) : Type 0 where
-  pub full : length column ≡ 16
-  pub each : (k : ℕ) → slice_index column k ≡ when (nat_lt k n) (f k)
+  pub full : length column ≡ n
+  pub each : (k : ℕ) → k < n → slice_index column k ≡ f k
 
 -- the first n tasks keep their deadlines, and these are their windows and bounds
 pub record KeptSo (m : Parts) (deadlines : List ℕ) (n : ℕ) (windows bounds : List ℕ) : Type 0 where

@@ -1,27 +1,29 @@
 // Deadlines and three parts, to be judged.
 ghost use Rattle.std.specs.Prelude.{◌≡◌};
 
+use model::parts::Trio;
+
 #[derive(Drop)]
-pub struct Draft<R, O, S> {
+pub struct Draft<P> {
     pub(crate) deadlines: Vec<u32>,
-    pub(crate) arrivals: R,
-    pub(crate) order: O,
-    pub(crate) sections: S,
+    pub(crate) parts: P,
 }
 
-impl<R, O, S> Draft<R, O, S> {
+impl<R, O, S> Draft<Trio<R, O, S>> {
     // Nothing is refused here: judging looks for every fault.
-    pub fn new(deadlines: Vec<u32>, arrivals: R, order: O, sections: S) -> Draft<R, O, S>
+    pub fn new(deadlines: Vec<u32>, arrivals: R, order: O, sections: S) -> Draft<Trio<R, O, S>>
         ensures deadlines { result.deadlines ≡ deadlines }
-        ensures arrivals { result.arrivals ≡ arrivals }
-        ensures order { result.order ≡ order }
-        ensures sections { result.sections ≡ sections }
+        ensures arrivals { result.parts.arrivals ≡ arrivals }
+        ensures order { result.parts.order ≡ order }
+        ensures sections { result.parts.sections ≡ sections }
     {
         Draft {
             deadlines,
-            arrivals,
-            order,
-            sections,
+            parts: Trio {
+                arrivals,
+                order,
+                sections,
+            },
         }
     }
 }

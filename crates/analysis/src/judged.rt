@@ -1,27 +1,18 @@
-// A judged table: the draft as it was handed in, with its verdict and its sheet. Only judging makes one.
+// A judged table: the draft as it was handed in, with its sheet or its first fault. Only judging makes one.
 ghost use Rattle.std.specs.Prelude.{◌≡◌, vec_len, slice_index};
-ghost use Rattle.analysis.specs.Lent.{Lends};
+ghost use Rattle.analysis.specs.Judgement.{verdict_of, windows_of, bounds_of};
 
 use crate::draft::Draft;
-use crate::parts::Parts;
+use crate::sheet::Sheet;
 use model::fault::Fault;
-use rows::column::entry;
-
-// The window and the bound of each task, 0 for a task that the table does not have.
-#[derive(Drop)]
-pub struct Sheet {
-    pub(crate) windows: [u32; 16],
-    pub(crate) bounds: [u32; 16],
-}
 
 #[derive(Drop)]
-pub struct Judged<R, O, S> {
-    pub(crate) draft: Draft<R, O, S>,
-    pub(crate) verdict: Option<Fault>,
-    pub(crate) sheet: Sheet,
+pub struct Judged<P> {
+    pub(crate) draft: Draft<P>,
+    pub(crate) sheet: Result<Sheet, Fault>,
 }
 
-impl<R, O, S> Judged<R, O, S> {
+impl<P> Judged<P> {
     pub fn tasks(&self) -> usize
         ensures { result ≡ vec_len self.now.draft.deadlines }
     {
@@ -30,31 +21,35 @@ impl<R, O, S> Judged<R, O, S> {
 
     // The first fault, or none on an accepted table.
     pub fn verdict(&self) -> Option<Fault>
-        ensures { result ≡ self.now.verdict }
+        ensures { result ≡ verdict_of self.now }
     {
-        self.verdict
+        self.sheet.as_ref().err().copied()
     }
 
+    // The window of a task, or 0 for one that the sheet does not have.
     pub fn window(&self, task: u8) -> u32
-        ensures { result ≡ slice_index self.now.sheet.windows task }
+        ensures { result ≡ slice_index (windows_of self.now) task }
     {
-        entry(&self.sheet.windows, task)
+        match &self.sheet {
+            Ok(sheet) => sheet.times(task).window,
+            Err(_) => 0,
+        }
     }
 
+    // The bound of a task, or 0 for one that the sheet does not have.
     pub fn bound(&self, task: u8) -> u32
-        ensures { result ≡ slice_index self.now.sheet.bounds task }
+        ensures { result ≡ slice_index (bounds_of self.now) task }
     {
-        entry(&self.sheet.bounds, task)
+        match &self.sheet {
+            Ok(sheet) => sheet.times(task).bound,
+            Err(_) => 0,
+        }
     }
 
     // The three parts, lent.
-    pub fn parts(&self) -> Parts<'_, R, O, S>
-        ensures { Lends result self.now.draft }
+    pub fn parts(&self) -> &P
+        ensures { result.now ≡ self.now.draft.parts }
     {
-        Parts {
-            arrivals: &self.draft.arrivals,
-            order: &self.draft.order,
-            sections: &self.draft.sections,
-        }
+        &self.draft.parts
     }
 }

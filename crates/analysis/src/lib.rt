@@ -2,10 +2,11 @@
 // with a window and a bound for each task, or with the first fault.
 #![tactic(auto)]
 
+mod blocking;
 mod bounds;
 mod demands;
 pub mod draft;
 pub mod judged;
 mod judging;
-pub mod parts;
+pub mod sheet;
 mod sheets;

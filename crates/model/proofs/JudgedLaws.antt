@@ -1,6 +1,6 @@
 -- What follows from what a judged table holds: when it is accepted, what its sheet then says, and that it is no worse
 -- than a heavier one.
-use Rattle.std.proofs.Common.{◌≡◌, ℕ, zero, suc, ◌<◌, List, length, get_or, replicate, Some, None, Option, sym, refl, ◌∙◌, arith}
+use Rattle.std.proofs.Common.{◌≡◌, ℕ, ◌<◌, List, [], length, get_or, Some, None, Option, sym, ◌∙◌, arith}
 use Rattle.std.proofs.lemmas.Bool.{lt-ltb}
 use Rattle.model.specs.Analysis.{bound}
 use Rattle.model.specs.Lighter.{NoWorseThanHeavier}
@@ -11,12 +11,6 @@ use Rattle.model.proofs.LighterLaws.{lighter_accepted}
 use Rattle.model.proofs.SealedLaws.{sealed}
 use Rattle.model.proofs.VerdictLaws.{accepted_says, says_accepted}
 
--- a blank column has 0 everywhere
-pub blank_column : (n k : ℕ) → ◌≡◌ {A = ℕ} (get_or (replicate n 0) k 0) 0
-blank_column zero k = refl
-blank_column (suc n) zero = refl
-blank_column (suc n) (suc k) = blank_column n k
-
 module _ (t : Table) where
   -- on the sheet of an accepted table stand the numbers of its tasks
   pub on_accepted : (f : ℕ → ℕ) (k : ℕ) → verdict t ≡ None → k < length t.deadlines → on_sheet t f k ≡ f k
@@ -26,13 +20,13 @@ module _ (t : Table) where
   pub on_refused : (f : ℕ → ℕ) (k : ℕ) (why : Fault) → verdict t ≡ Some why → on_sheet t f k ≡ 0
   on_refused f k why refused = rw refused
 
-  -- a refused table with a blank sheet
-  pub refused_blank : (why : Fault) → verdict t ≡ Some why → JudgedSo t (Some why) (replicate 16 0) (replicate 16 0)
+  -- a refused table has no sheet
+  pub refused_blank : (why : Fault) → verdict t ≡ Some why → JudgedSo t (Some why) [] []
   refused_blank why refused =
       record {
         by_verdict = sym refused;
-        by_window = λ k. blank_column 16 k ∙ sym (on_refused (window_length t.parts) k why refused);
-        by_bound = λ k. blank_column 16 k ∙ sym (on_refused (bound t.parts) k why refused);
+        by_window = λ k. sym (on_refused (window_length t.parts) k why refused);
+        by_bound = λ k. sym (on_refused (bound t.parts) k why refused);
       }
 
   module _ (found : Option Fault) (windows bounds : List ℕ) (held : JudgedSo t found windows bounds) where

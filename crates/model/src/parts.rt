@@ -17,6 +17,9 @@ pub trait Parts {
 
     ghost meaning: { Self → Meanings };
 
+    // What each `impl` must prove.
+    ghost lawful: { (x : Self) → Lawful (meaning x) };
+
     fn arrivals(&self) -> &Self::Arrivals
         ensures { Self.Arrivals.meaning result.now ≡ (meaning self.now).arrivals };
 
@@ -25,9 +28,6 @@ pub trait Parts {
 
     fn sections(&self) -> &Self::Sections
         ensures { Self.Sections.meaning result.now ≡ (meaning self.now).sections };
-
-    // What each `impl` must prove.
-    ghost lawful: { (x : Self) → Lawful (meaning x) };
 }
 
 // One part of each kind, put together.
