@@ -31,15 +31,18 @@ pub filled_at : (f : ℕ → ℕ) (n : ℕ) (column : List ℕ) → Filled f n c
 filled_at f n column filled k =
     ⊎_elim (λ before. rw (lt-ltb k n before) (filled.each k before)) (λ past. rw (le-ltb k n past) (get_or_past column k 0 (omega (arith, filled.full)))) (cases_lt k n)
 
+-- the same of a column of rows, where one row more is kept
+pub filled_row : {T : Type 0} (pick : T → ℕ) (f : ℕ → ℕ) (n : ℕ) (rows : List T) (row : T) → Filled f n (map pick rows) → pick row ≡ f n → Filled f (n + 1) (map pick (rows ++ row ∷ []))
+filled_row pick f n rows row so_far is = rw (map-append pick rows (row ∷ [])) (filled_more f n (pick row) (map pick rows) so_far is)
+
 -- one task more that keeps its deadline
 pub kept_more : (m : Parts) (deadlines : List ℕ) (n : ℕ) (times : List Times) (t : Times) →
     KeptSo m deadlines n (map (λ (t : Times). t.window) times) (map (λ (t : Times). t.bound) times)
     → Timely m n (get_or deadlines n 0) t.window t.bound
     → KeptSo m deadlines (n + 1) (map (λ (t : Times). t.window) (times ++ t ∷ [])) (map (λ (t : Times). t.bound) (times ++ t ∷ []))
 kept_more m deadlines n times t so_far timely =
-    rw (map-append (λ (t : Times). t.window) times (t ∷ []), map-append (λ (t : Times). t.bound) times (t ∷ []))
-    (record {
+    record {
       clear = first_fault_clear n _ so_far.clear timely.kept;
-      windows_so = filled_more (window_length m) n t.window _ so_far.windows_so (rw timely.by_window);
-      bounds_so = filled_more (bound m) n t.bound _ so_far.bounds_so timely.by_bound;
-    })
+      windows_so = filled_row (λ (t : Times). t.window) (window_length m) n times t so_far.windows_so (rw timely.by_window);
+      bounds_so = filled_row (λ (t : Times). t.bound) (bound m) n times t so_far.bounds_so timely.by_bound;
+    }
