@@ -44,7 +44,7 @@ pub enum Part {
     Book = 5,
 }
 
-// The task of a fault that means none.
+// The task of a fault that means none. It is a number and no Option, since the format of a fault says 255.
 pub const NO_TASK: u8 = 255;
 
 #[derive(Clone, Copy, PartialEq, Eq, Debug)]

@@ -7,7 +7,8 @@ pub struct Released {
     pub at: u32,
 }
 
-// How many ticks from the start of a busy window the releases of a task can still be ahead.
+// How many ticks from the start of a busy window the releases of a task can still be ahead. As an Option it would read the
+// wrong way round: no end is the furthest reach, and none at all is 0 ticks.
 #[derive(Clone, Copy, PartialEq, Eq, Debug)]
 pub enum Reach {
     Ticks(u64),

@@ -5,7 +5,8 @@ ghost use Rattle.std.specs.Prelude.{◌≡◌, ℕ, MatchOption};
 ghost use Rattle.model.specs.Arrivals.{last_length};
 ghost use Rattle.model.specs.Least.{least, Rises, NeverMet, LeastMet};
 
-// How many ticks are wanted in a length of ticks, which never falls as the length grows.
+// How many ticks are wanted in a length of ticks, which never falls as the length grows. It is a trait and no closure, so
+// that the law is part of the type, and the search asks nothing of its caller.
 pub trait Demand {
     ghost demand: { Self → ℕ → ℕ };
 
