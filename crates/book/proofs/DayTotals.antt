@@ -11,8 +11,10 @@ use Rattle.days.specs.Views.{viewed}
 use Rattle.days.proofs.Promise.{led_keeps}
 use Rattle.days.proofs.Totals.{totals_keep}
 use Rattle.days.proofs.Views.{led_reading}
+use Rattle.analysis.proofs.Columns.{filled_at}
+use Rattle.book.specs.Columns.{longest_in}
 use Rattle.book.specs.Totalled.{Totalled, OfEveryDay, WithinBounds}
-use Rattle.book.specs.declared.books.Totals.{Totals}
+use Rattle.book.specs.declared.totals.Totals.{Totals}
 
 module _ (t : Table) (lawful : Lawful t.parts) (verdict : Option Fault) (s : State) (totals : Totals) (so : Totalled (viewed s) totals) where
   -- what is read off a day is what the state shows
@@ -23,4 +25,4 @@ module _ (t : Table) (lawful : Lawful t.parts) (verdict : Option Fault) (s : Sta
   pub within_bounds : WithinBounds t verdict s totals
   within_bounds accepted day led k =
       let kept = totals_keep (bound t.parts) (reading day) (led_keeps t lawful verdict accepted led) k in
-      rw ((of_every_day day led).longest_so.each k) (when_below (ltb k 16) (longest_time (reading day) k) (bound t.parts k) (λ _. kept))
+      rw (filled_at (longest_time (reading day)) 16 (longest_in totals) (of_every_day day led).longest_so k) (when_below (ltb k 16) (longest_time (reading day) k) (bound t.parts k) (λ _. kept))

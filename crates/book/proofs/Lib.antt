@@ -1,3 +1,2 @@
-pub mod LentParts
 pub mod Following
 pub mod DayTotals

@@ -1,7 +1,8 @@
 -- A job as the book shows it: task, release, state, and the time that it took or 0.
 -- Cited by the question about a job.
-use Rattle.std.specs.Prelude.{ℕ, List, Some, None, Option}
+use Rattle.std.specs.Prelude.{ℕ, List, Option}
 use Rattle.std.specs.List.{slice_get}
+use Rattle.std.specs.Option.{option_map}
 use Rattle.model.specs.Choice.{if_some}
 use Rattle.days.specs.Views.{shown_time}
 use Rattle.days.specs.declared.job.Job.{Job}
@@ -12,4 +13,4 @@ job_view j = record { task = j.task; release = j.release; state = j.state; took 
 
 -- job n of the book, or none
 abbrev pub nth_job : List Job → ℕ → Option JobView
-nth_job jobs n = if_some (slice_get jobs n) None (λ j. Some (job_view j))
+nth_job jobs n = option_map job_view (slice_get jobs n)

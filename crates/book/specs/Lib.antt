@@ -1,3 +1,4 @@
 pub mod Books
 pub mod JobViews
+pub mod Columns
 pub mod Totalled

@@ -1,25 +1,26 @@
 // Closing a book: the table comes back, with the totals of the day.
-ghost use Rattle.std.specs.Prelude.{◌≡◌, slice_index};
+ghost use Rattle.std.specs.Prelude.{◌≡◌};
 ghost use Rattle.days.specs.Views.{viewed};
+ghost use Rattle.analysis.specs.Drafted.{drafted};
+ghost use Rattle.analysis.specs.Judgement.{verdict_of};
 ghost use Rattle.timeline.specs.Timelines.{held_by};
-ghost use Rattle.book.specs.Books.{table_of, parts_of, state_of};
+ghost use Rattle.book.specs.Books.{parts_of, state_of};
 ghost use Rattle.book.specs.Totalled.{Totalled, OfEveryDay, WithinBounds};
 
-use crate::books::{Book, Closed, Totals};
-use model::arrivals::Arrivals;
-use model::order::Order;
-use model::sections::Sections;
-use rows::column::entry;
+use crate::books::{Book, Closed};
+use crate::totals::{TaskTotals, Totals};
+use arrayvec::ArrayVec;
+use model::parts::Parts;
 use timeline::state::Timeline;
 
-impl<R: Arrivals, O: Order, S: Sections> Book<R, O, S> {
+impl<P: Parts> Book<P> {
     // The table as it was, and the totals. They are those read off whatever day the book has lived, and on an accepted
     // table no longest time is above the bound.
-    pub fn close(self) -> Closed<R, O, S>
+    pub fn close(self) -> Closed<P>
         ensures table { result.table ≡ self.table }
         ensures totals { Totalled (viewed (state_of self)) result.totals }
-        ensures day { OfEveryDay self.table.verdict (parts_of R.Arrivals.meaning O.Order.meaning S.Sections.meaning self) (state_of self) result.totals }
-        ensures promise { WithinBounds (table_of R.Arrivals.meaning O.Order.meaning S.Sections.meaning self) self.table.verdict (state_of self) result.totals }
+        ensures day { OfEveryDay (verdict_of self.table) (P.meaning (parts_of self)) (state_of self) result.totals }
+        ensures promise { WithinBounds (drafted P.meaning self.table.draft) (verdict_of self.table) (state_of self) result.totals }
     {
         let Book { table, timeline } = self;
         let totals = totals(&timeline);
@@ -30,27 +31,12 @@ impl<R: Arrivals, O: Order, S: Sections> Book<R, O, S> {
 fn totals(timeline: &Timeline) -> Totals
     ensures { Totalled (viewed (held_by timeline.entry.now)) result }
 {
-    let mut finished = [0; 16];
-    let mut longest = [0; 16];
+    let mut tasks = ArrayVec::new();
     for task in 0..16u8 {
-        finished[usize::from(task)] = timeline.finished(task);
-        longest[usize::from(task)] = timeline.longest(task);
+        tasks.push(TaskTotals {
+            finished: timeline.finished(task),
+            longest: timeline.longest(task),
+        });
     }
-    Totals { finished, longest }
-}
-
-impl Totals {
-    // How many jobs of the task were finished.
-    pub fn finished(&self, task: u8) -> u32
-        ensures { result ≡ slice_index self.now.finished task }
-    {
-        entry(&self.finished, task)
-    }
-
-    // The longest time that a job of the task took.
-    pub fn longest(&self, task: u8) -> u32
-        ensures { result ≡ slice_index self.now.longest task }
-    {
-        entry(&self.longest, task)
-    }
+    Totals { tasks }
 }

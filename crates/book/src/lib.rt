@@ -5,4 +5,5 @@ pub mod books;
 mod closing;
 mod commands;
 mod opening;
+pub mod totals;
 pub mod views;

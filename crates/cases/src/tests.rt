@@ -5,14 +5,6 @@ mod tables;
 
 use model::fault::{Fault, Part, Refusal};
 
-// What a making refuses, if it does.
-fn refused<T: Drop>(made: Result<T, Fault>) -> Option<Fault> {
-    match made {
-        Ok(_) => None,
-        Err(fault) => Some(fault),
-    }
-}
-
 fn fault(refusal: Refusal, part: Part, task: u8) -> Option<Fault> {
     Some(Fault {
         refusal,

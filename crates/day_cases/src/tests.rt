@@ -19,6 +19,7 @@ use kinds::FloatingTask;
 use model::arrivals::Arrivals;
 use model::fault::Fault;
 use model::order::Order;
+use model::parts::{Parts, Trio};
 use model::sections::Sections;
 use orders::earliest_deadline::EarliestDeadline;
 use records::obey;
@@ -32,7 +33,7 @@ use timeline::storage::JobStorage;
 // The record that the README shows: R 0, O 0, I 1 and D 0.
 const NINE_BYTES: [u8; 9] = *b"R\0O\0I\0\x01D\0";
 
-type EarliestFirst<S> = Book<Separations, EarliestDeadline, S>;
+type EarliestFirst<S> = Book<Trio<Separations, EarliestDeadline, S>>;
 
 // A book on the built-in table, with the bounds 3 and 6.
 fn built_in(heap: Global) -> Result<EarliestFirst<OpenSections>, Fail> {
@@ -70,7 +71,7 @@ fn open<R: Arrivals + Drop, O: Order + Drop, S: Sections + Drop>(
     arrivals: R,
     order: O,
     sections: S,
-) -> Result<Book<R, O, S>, Fail> {
+) -> Result<Book<Trio<R, O, S>>, Fail> {
     let storage = JobStorage::reserve(*deadlines.allocator())?;
     let table = Draft::new(deadlines, arrivals, order, sections).judge();
     Ok(Book::open(table, storage))
@@ -84,39 +85,32 @@ fn numbers(fault: Fault) -> Numbers {
 }
 
 // Obeys a command, and sees to the answer and the time.
-fn obeys<R: Arrivals, O: Order, S: Sections>(
+fn obeys<P: Parts>(
     rt: &impl Abort,
-    book: &mut Book<R, O, S>,
+    book: &mut Book<P>,
     command: Command,
     expected: Result<(), Numbers>,
     now: u32,
 ) {
-    let answer = match book.obey(command) {
-        Ok(()) => Ok(()),
-        Err(fault) => Err(numbers(fault)),
-    };
-    assert_eq!(rt; answer, expected);
+    assert_eq!(rt; book.obey(command).map_err(numbers), expected);
     assert_eq!(rt; book.now(), now);
 }
 
 // What is answered at a place of a record: the next place, or the place, the next one if there is any, and the fault.
 type Answer = Result<usize, (usize, Option<usize>, Numbers)>;
 
-fn read<R: Arrivals, O: Order, S: Sections>(
-    book: &mut Book<R, O, S>,
-    record: &[u8],
-    place: usize,
-) -> Answer {
-    match obey(book, record, place) {
-        Ok(next) => Ok(next),
-        Err(refused) => Err((refused.place, refused.next, numbers(refused.fault))),
-    }
+fn read<P: Parts>(book: &mut Book<P>, record: &[u8], place: usize) -> Answer {
+    obey(book, record, place).map_err(|refused| (
+        refused.place,
+        refused.next,
+        numbers(refused.fault),
+    ))
 }
 
 // Reads the command at a place, and sees to the answer and the time.
-fn reads<R: Arrivals, O: Order, S: Sections>(
+fn reads<P: Parts>(
     rt: &impl Abort,
-    book: &mut Book<R, O, S>,
+    book: &mut Book<P>,
     record: &[u8],
     place: usize,
     expected: Answer,
@@ -127,9 +121,9 @@ fn reads<R: Arrivals, O: Order, S: Sections>(
 }
 
 // Reads a record from its start to a place, and every command on the way is taken.
-fn follow<R: Arrivals, O: Order, S: Sections>(
+fn follow<P: Parts>(
     rt: &impl Abort,
-    book: &mut Book<R, O, S>,
+    book: &mut Book<P>,
     record: &[u8],
     end: usize,
 ) -> Result<(), Fail> {
@@ -157,18 +151,13 @@ fn finished(task: u8, release: u32, took: u32) -> Option<JobView> {
 type Left = (u32, u32, u32);
 
 // Closes the book: the verdict, and what is left for tasks 0 and 1.
-fn close<R: Arrivals + Drop, O: Order + Drop, S: Sections + Drop>(
-    book: Book<R, O, S>,
-) -> (Option<Numbers>, Left, Left) {
+fn close<P: Parts + Drop>(book: Book<P>) -> (Option<Numbers>, Left, Left) {
     let closed = book.close();
-    let verdict = match closed.table.verdict() {
-        Some(fault) => Some(numbers(fault)),
-        None => None,
-    };
+    let verdict = closed.table.verdict().map(numbers);
     (verdict, left(&closed, 0), left(&closed, 1))
 }
 
-fn left<R, O, S>(closed: &Closed<R, O, S>, task: u8) -> Left {
+fn left<P>(closed: &Closed<P>, task: u8) -> Left {
     let finished = closed.totals.finished(task);
     let longest = closed.totals.longest(task);
     (finished, longest, closed.table.bound(task))

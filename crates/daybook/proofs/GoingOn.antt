@@ -2,14 +2,11 @@
 use Rattle.std.proofs.Common.{◌≡◌, [], ◌∷◌, ◌++◌, Option, sym, subst}
 use Rattle.std.proofs.lemmas.List.{append-nil, append_assoc}
 use Rattle.model.specs.Analysis.{Parts}
-use Rattle.model.specs.Arrivals.{ArrivalsMeaning}
-use Rattle.model.specs.Order.{OrderMeaning}
-use Rattle.model.specs.Sections.{SectionsMeaning}
 use Rattle.model.specs.declared.fault.Fault.{Fault}
 use Rattle.days.specs.Days.{event, Led, Followed, GoesOn}
 use Rattle.days.specs.Rules.{State}
 use Rattle.days.specs.declared.command.Command.{Command}
-use Rattle.analysis.specs.Drafted.{drafted}
+use Rattle.analysis.specs.Judgement.{verdict_of}
 use Rattle.analysis.specs.declared.judged.Judged.{Judged}
 
 module _ (verdict : Option Fault) (m : Parts) where
@@ -25,11 +22,10 @@ module _ (verdict : Option Fault) (m : Parts) where
       (before.0 ++ last, subst (λ d. Led verdict m d later) (append_assoc day before.0 last) (call.day (day ++ before.0) before.1))
 
 -- one call more on a book whose table has stayed the same
-module _ {R O S : Type 0} (arrivals : R → ArrivalsMeaning) (order : O → OrderMeaning) (sections : S → SectionsMeaning) where
-  pub goes_on_call : (table held : Judged R O S) (s between later : State) (c : Option Command) (why : Option Fault) → held ≡ table
-      → GoesOn table.verdict (drafted arrivals order sections table.draft).parts s between
-      → Followed held.verdict (drafted arrivals order sections held.draft).parts between c why later
-      → GoesOn table.verdict (drafted arrivals order sections table.draft).parts s later
-  goes_on_call table held s between later c why same so_far call =
-      goes_on_more table.verdict (drafted arrivals order sections table.draft).parts s between later c why so_far
-      (subst (λ t. Followed t.verdict (drafted arrivals order sections t.draft).parts between c why later) same call)
+pub goes_on_call : {P : Type 0} (meaning : P → Parts) (table held : Judged P) (s between later : State) (c : Option Command) (why : Option Fault) → held ≡ table
+    → GoesOn (verdict_of table) (meaning table.draft.parts) s between
+    → Followed (verdict_of held) (meaning held.draft.parts) between c why later
+    → GoesOn (verdict_of table) (meaning table.draft.parts) s later
+goes_on_call meaning table held s between later c why same so_far call =
+    goes_on_more (verdict_of table) (meaning table.draft.parts) s between later c why so_far
+    (subst (λ t. Followed (verdict_of t) (meaning t.draft.parts) between c why later) same call)

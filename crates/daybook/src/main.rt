@@ -3,6 +3,7 @@
 
 ghost use Rattle.std.specs.Prelude.{◌≡◌, [], ◌∷◌, MatchResult};
 ghost use Rattle.days.specs.Days.{GoesOn};
+ghost use Rattle.analysis.specs.Judgement.{verdict_of, windows_of, bounds_of};
 ghost use Rattle.book.specs.Books.{parts_of, state_of};
 ghost use Rattle.daybook.specs.BuiltIn.{BuiltInSheet};
 ghost use Rattle.daybook.specs.Letters.{shown_letter};
@@ -12,17 +13,15 @@ use analysis::judged::Judged;
 use arrivals::separations::Separations;
 use book::books::Book;
 use days::job::JobState;
-use model::arrivals::Arrivals;
 use model::fault::Fault;
-use model::order::Order;
-use model::sections::Sections;
+use model::parts::{Parts, Trio};
 use orders::earliest_deadline::EarliestDeadline;
 use sections::open_sections::OpenSections;
 use std::io;
 use std::io::Read;
 use timeline::storage::{JobStorage, MOST_JOBS};
 
-type BuiltIn = Judged<Separations, EarliestDeadline, OpenSections>;
+type BuiltIn = Judged<Trio<Separations, EarliestDeadline, OpenSections>>;
 
 fn main(rt: HostRuntime) -> anyhow::Result<()> {
     let deadlines = vec![in rt.alloc(); 4, 7]?;
@@ -44,7 +43,7 @@ fn main(rt: HostRuntime) -> anyhow::Result<()> {
 // Two tasks under earliest deadline first, fully preemptive. No making refuses, and the sheet is known.
 fn built_in(deadlines: Vec<u32>) -> Result<BuiltIn, Fault>
     requires { deadlines.items ≡ 4 ∷ 7 ∷ [] }
-    ensures { MatchResult result (λ t. BuiltInSheet t.verdict t.sheet.windows t.sheet.bounds) (λ _. ⊥) }
+    ensures { MatchResult result (λ t. BuiltInSheet (verdict_of t) (windows_of t) (bounds_of t)) (λ _. ⊥) }
 {
     let arrivals = Separations::new(&[4, 12])?;
     let order = EarliestDeadline::new(deadlines.as_slice())?;
@@ -52,7 +51,7 @@ fn built_in(deadlines: Vec<u32>) -> Result<BuiltIn, Fault>
     Ok(Draft::new(deadlines, arrivals, order, sections).judge())
 }
 
-fn print_sheet<R, O, S>(rt: &HostRuntime, table: &Judged<R, O, S>) -> io::Result<()> {
+fn print_sheet<P>(rt: &HostRuntime, table: &Judged<P>) -> io::Result<()> {
     if let Some(fault) = table.verdict() {
         return println!(rt; "refused: {fault}");
     }
@@ -66,13 +65,13 @@ fn print_sheet<R, O, S>(rt: &HostRuntime, table: &Judged<R, O, S>) -> io::Result
 }
 
 // Obeys the record and prints what came of each command, until nothing can be read or the record is at its end.
-fn follow<R: Arrivals, O: Order, S: Sections>(
+fn follow<P: Parts>(
     rt: &HostRuntime,
-    book: &mut Book<R, O, S>,
+    book: &mut Book<P>,
     record: &[u8],
 ) -> io::Result<()>
     ensures table { book.new.table ≡ book.old.table }
-    ensures day { GoesOn book.old.table.verdict (parts_of R.Arrivals.meaning O.Order.meaning S.Sections.meaning book.old) (state_of book.old) (state_of book.new) }
+    ensures day { GoesOn (verdict_of book.old.table) (P.meaning (parts_of book.old)) (state_of book.old) (state_of book.new) }
 {
     let mut place = 0;
     while place < record.len() {
@@ -101,11 +100,9 @@ fn letter(byte: u8) -> char
     }
 }
 
-fn print_jobs<R, O, S>(rt: &HostRuntime, book: &Book<R, O, S>) -> io::Result<()> {
-    for n in 0..MOST_JOBS {
-        let Some(job) = book.job(n) else {
-            return Ok(());
-        };
+fn print_jobs<P>(rt: &HostRuntime, book: &Book<P>) -> io::Result<()> {
+    let jobs = (0..MOST_JOBS).map_while(|n| book.job(n));
+    for (n, job) in jobs.enumerate() {
         let task = job.task;
         let release = job.release;
         match job.state {

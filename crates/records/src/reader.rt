@@ -3,27 +3,26 @@ ghost use Rattle.std.specs.Prelude.{◌≡◌, ◌<◌, ◌≤◌, length, drop,
 ghost use Rattle.days.specs.Days.{Followed};
 ghost use Rattle.days.specs.Records.{decoded};
 ghost use Rattle.days.specs.Rules.{answer};
+ghost use Rattle.analysis.specs.Judgement.{verdict_of};
 ghost use Rattle.book.specs.Books.{parts_of, state_of};
 ghost use Rattle.records.specs.Placed.{reads_on, read_answer, book_answer};
 
 use crate::fault::RecordFault;
 use crate::letters::command;
 use book::books::Book;
-use model::arrivals::Arrivals;
 use model::fault::{Fault, Refusal};
-use model::order::Order;
-use model::sections::Sections;
+use model::parts::Parts;
 
 // Obeys the command at a place of the record and gives the next place. Bytes that are no command, and places past the
 // end, are refused as unread.
-pub fn obey<R: Arrivals, O: Order, S: Sections>(
-    book: &mut Book<R, O, S>,
+pub fn obey<P: Parts>(
+    book: &mut Book<P>,
     bytes: &[u8],
     place: usize,
 ) -> Result<usize, RecordFault>
     ensures table { book.new.table ≡ book.old.table }
-    ensures answer { result ≡ read_answer (answer book.old.table.verdict (parts_of R.Arrivals.meaning O.Order.meaning S.Sections.meaning book.old) (state_of book.old) (decoded (drop place bytes.now))) (decoded (drop place bytes.now)) place }
-    ensures followed { Followed book.old.table.verdict (parts_of R.Arrivals.meaning O.Order.meaning S.Sections.meaning book.old) (state_of book.old) (decoded (drop place bytes.now)) (book_answer result) (state_of book.new) }
+    ensures answer { result ≡ read_answer (answer (verdict_of book.old.table) (P.meaning (parts_of book.old)) (state_of book.old) (decoded (drop place bytes.now))) (decoded (drop place bytes.now)) place }
+    ensures followed { Followed (verdict_of book.old.table) (P.meaning (parts_of book.old)) (state_of book.old) (decoded (drop place bytes.now)) (book_answer result) (state_of book.new) }
     ensures further { MatchResult result (λ next. (place < next) × (next ≤ length bytes.now)) (λ f. IfSome f.next (λ next. (place < next) × (next ≤ length bytes.now))) }
 {
     let Some((command, rest)) = command(bytes_from(bytes, place)) else {
@@ -40,10 +39,7 @@ pub fn obey<R: Arrivals, O: Order, S: Sections>(
 fn bytes_from(bytes: &[u8], place: usize) -> &[u8]
     ensures { result.now ≡ drop place bytes.now }
 {
-    match bytes.get(place..) {
-        Some(rest) => rest,
-        None => &[],
-    }
+    bytes.get(place..).unwrap_or(&[])
 }
 
 // The next place, if there was a command to go past.

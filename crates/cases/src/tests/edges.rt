@@ -1,6 +1,6 @@
 // Numbers of tasks: none, sixteen, seventeen, and parts that disagree.
 use crate::bursts::Bursts;
-use crate::tests::{fault, refused};
+use crate::tests::fault;
 use analysis::draft::Draft;
 use arrivals::separations::Separations;
 use arrivals::steps::Steps;
@@ -19,28 +19,28 @@ use std::test::Fail;
 #[test]
 fn no_tasks_and_seventeen_are_a_fault_of_size(rt: HostRuntime) {
     let arrivals = fault(Refusal::Size, Part::Arrivals, NO_TASK);
-    assert_eq!(rt; refused(Separations::new(&[])), arrivals);
-    assert_eq!(rt; refused(Separations::new(&[1; 16])), None);
-    assert_eq!(rt; refused(Separations::new(&[1; 17])), arrivals);
-    assert_eq!(rt; refused(Steps::new(&[])), arrivals);
-    assert_eq!(rt; refused(Steps::new(&[1; 8])), arrivals);
-    assert_eq!(rt; refused(Steps::new(&[1; 153])), arrivals);
+    assert_eq!(rt; Separations::new(&[]).err(), arrivals);
+    assert_eq!(rt; Separations::new(&[1; 16]).err(), None);
+    assert_eq!(rt; Separations::new(&[1; 17]).err(), arrivals);
+    assert_eq!(rt; Steps::new(&[]).err(), arrivals);
+    assert_eq!(rt; Steps::new(&[1; 8]).err(), arrivals);
+    assert_eq!(rt; Steps::new(&[1; 153]).err(), arrivals);
     let order = fault(Refusal::Size, Part::Order, NO_TASK);
-    assert_eq!(rt; refused(FixedPriority::new(&[])), order);
-    assert_eq!(rt; refused(FixedPriority::new(&[0; 17])), order);
-    assert_eq!(rt; refused(EarliestDeadline::new(&[])), order);
-    assert_eq!(rt; refused(EarliestDeadline::new(&[1; 17])), order);
+    assert_eq!(rt; FixedPriority::new(&[]).err(), order);
+    assert_eq!(rt; FixedPriority::new(&[0; 17]).err(), order);
+    assert_eq!(rt; EarliestDeadline::new(&[]).err(), order);
+    assert_eq!(rt; EarliestDeadline::new(&[1; 17]).err(), order);
 }
 
 #[test]
 fn sections_have_one_to_sixteen_tasks(rt: HostRuntime) {
     let sections = fault(Refusal::Size, Part::Sections, NO_TASK);
-    assert_eq!(rt; refused(OpenSections::new(&[])), sections);
-    assert_eq!(rt; refused(OpenSections::new(&[1; 17])), sections);
-    assert_eq!(rt; refused(ShutSections::new(&[])), sections);
-    assert_eq!(rt; refused(FloatingSections::new(&[])), sections);
-    assert_eq!(rt; refused(PointSections::new(&[[1; 8]; 16])), None);
-    assert_eq!(rt; refused(PointSections::new(&[[1; 8]; 17])), sections);
+    assert_eq!(rt; OpenSections::new(&[]).err(), sections);
+    assert_eq!(rt; OpenSections::new(&[1; 17]).err(), sections);
+    assert_eq!(rt; ShutSections::new(&[]).err(), sections);
+    assert_eq!(rt; FloatingSections::new(&[]).err(), sections);
+    assert_eq!(rt; PointSections::new(&[[1; 8]; 16]).err(), None);
+    assert_eq!(rt; PointSections::new(&[[1; 8]; 17]).err(), sections);
 }
 
 #[test]

@@ -1,5 +1,5 @@
 // Every limit of a field, and one past it.
-use crate::tests::{fault, refused};
+use crate::tests::fault;
 use arrivals::delay::Delays;
 use arrivals::separations::Separations;
 use arrivals::steps::Steps;
@@ -14,38 +14,38 @@ use sections::shut_sections::ShutSections;
 #[test]
 fn separations_and_delays(rt: HostRuntime) {
     let second = fault(Refusal::Range, Part::Arrivals, 1);
-    assert_eq!(rt; refused(Separations::new(&[1, 1_000_000])), None);
-    assert_eq!(rt; refused(Separations::new(&[1, 0])), second);
-    assert_eq!(rt; refused(Separations::new(&[1, 1_000_001])), second);
+    assert_eq!(rt; Separations::new(&[1, 1_000_000]).err(), None);
+    assert_eq!(rt; Separations::new(&[1, 0]).err(), second);
+    assert_eq!(rt; Separations::new(&[1, 1_000_001]).err(), second);
     let mut ticks = [1_000_000; 16];
-    assert_eq!(rt; refused(Delays::new(&ticks)), None);
+    assert_eq!(rt; Delays::new(&ticks).err(), None);
     ticks[15] = 1_000_001;
     assert_eq!(rt;
-        refused(Delays::new(&ticks)),
+        Delays::new(&ticks).err(),
         fault(Refusal::Range, Part::Arrivals, 15)
     );
 }
 
 #[test]
 fn relative_deadlines_and_costs(rt: HostRuntime) {
-    assert_eq!(rt; refused(EarliestDeadline::new(&[1, 100_000])), None);
+    assert_eq!(rt; EarliestDeadline::new(&[1, 100_000]).err(), None);
     assert_eq!(rt;
-        refused(EarliestDeadline::new(&[1, 0])),
+        EarliestDeadline::new(&[1, 0]).err(),
         fault(Refusal::Range, Part::Order, 1)
     );
     assert_eq!(rt;
-        refused(EarliestDeadline::new(&[100_001, 1])),
+        EarliestDeadline::new(&[100_001, 1]).err(),
         fault(Refusal::Range, Part::Order, 0)
     );
     let first = fault(Refusal::Range, Part::Sections, 0);
-    assert_eq!(rt; refused(OpenSections::new(&[100_000])), None);
-    assert_eq!(rt; refused(OpenSections::new(&[100_001])), first);
-    assert_eq!(rt; refused(ShutSections::new(&[0])), first);
-    assert_eq!(rt; refused(ShutSections::new(&[100_001])), first);
+    assert_eq!(rt; OpenSections::new(&[100_000]).err(), None);
+    assert_eq!(rt; OpenSections::new(&[100_001]).err(), first);
+    assert_eq!(rt; ShutSections::new(&[0]).err(), first);
+    assert_eq!(rt; ShutSections::new(&[100_001]).err(), first);
 }
 
 fn floating(cost: u32, longest: u32) -> Option<Fault> {
-    refused(FloatingSections::new(&[FloatingTask { cost, longest }]))
+    FloatingSections::new(&[FloatingTask { cost, longest }]).err()
 }
 
 #[test]
@@ -60,7 +60,7 @@ fn floating_stretches(rt: HostRuntime) {
 }
 
 fn steps(row: [u32; 9]) -> Option<Fault> {
-    refused(Steps::new(&row))
+    Steps::new(&row).err()
 }
 
 #[test]
@@ -98,7 +98,7 @@ fn steps_rows(rt: HostRuntime) {
 }
 
 fn points(row: [u32; 8]) -> Option<Fault> {
-    refused(PointSections::new(&[row]))
+    PointSections::new(&[row]).err()
 }
 
 #[test]

@@ -19,7 +19,7 @@ fn a_day_of_bursts(rt: HostRuntime) -> Result<(), Fail> {
     Ok(())
 }
 
-fn bursts(heap: Global) -> Result<Book<Bursts, FixedPriority, OpenSections>, Fail> {
+fn bursts(heap: Global) -> Result<Book<Trio<Bursts, FixedPriority, OpenSections>>, Fail> {
     let order = FixedPriority::new(&[2, 1])?;
     open(
         vec![in heap; 2, 6]?,

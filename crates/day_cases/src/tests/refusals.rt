@@ -4,9 +4,9 @@ use super::*;
 use std::process::Abort;
 
 // Everything before the place is taken, and the refusal changes neither time nor jobs.
-fn refuses<R: Arrivals, O: Order, S: Sections>(
+fn refuses<P: Parts>(
     rt: &impl Abort,
-    book: &mut Book<R, O, S>,
+    book: &mut Book<P>,
     record: &[u8],
     place: usize,
     next: Option<usize>,

@@ -7,7 +7,7 @@ pub returns : goal.returns
 returns c =
     let draft = c.new-4.result in
     let same = c.new-4.ensures in
-    built_in_judged (vec_items draft.deadlines) (kept draft.arrivals.rows) (kept draft.order.rows) (kept draft.sections.rows) _ _ _
+    built_in_judged (vec_items draft.deadlines) (kept draft.parts.arrivals.rows) (kept draft.parts.order.rows) (kept draft.parts.sections.rows) _ _ _
     (ap vec_items same.deadlines ∙ c.requires)
     (ap (λ part. kept part.rows) same.arrivals ∙ c.in_ok-arrivals.ensures.0)
     (ap (λ part. kept part.rows) same.order ∙ c.in_ok-order.ensures.0 ∙ c.as_slice.ensures.value ∙ c.requires)

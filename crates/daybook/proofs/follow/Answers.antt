@@ -9,7 +9,7 @@ returns-in_err-println g c =
     let inv = c.loop-place.invariant in
     record {
       table = call.table ∙ inv.0;
-      day = goes_on_call g.R.Arrivals.meaning g.O.Order.meaning g.S.Sections.meaning _ c.loop-place.book.table _ (state_of c.loop-place.book) (state_of c.obey.new.book) _ _ inv.0 inv.1 call.followed;
+      day = goes_on_call g.P.Parts.meaning _ c.loop-place.book.table _ (state_of c.loop-place.book) (state_of c.obey.new.book) _ _ inv.0 inv.1 call.followed;
     }
 
 pub loop-place-preserved : goal.loop-place-preserved
@@ -17,5 +17,5 @@ loop-place-preserved g c =
     let call = c.obey.ensures in
     let inv = c.loop-place.invariant in (
       call.table ∙ inv.0,
-      goes_on_call g.R.Arrivals.meaning g.O.Order.meaning g.S.Sections.meaning _ c.loop-place.book.table _ (state_of c.loop-place.book) (state_of c.obey.new.book) _ _ inv.0 inv.1 call.followed,
+      goes_on_call g.P.Parts.meaning _ c.loop-place.book.table _ (state_of c.loop-place.book) (state_of c.obey.new.book) _ _ inv.0 inv.1 call.followed,
     )
