@@ -1,10 +1,7 @@
--- Maps: how a change of one element, counts and maxima go through them.
-use Rattle.std.proofs.Common.{◌≡◌, ℕ, ◌+◌, max, Bool, true, List, [], ◌∷◌, map, refl, ap, ⊎_elim}
-use Rattle.std.specs.List.{count_by}
+-- Maps: how a change of one element goes through them.
+use Rattle.std.proofs.Common.{◌≡◌, Bool, true, List, [], ◌∷◌, map, refl, ap, ⊎_elim}
 use Rattle.std.proofs.lemmas.Bool.{cases_Bool}
-use Rattle.std.proofs.lemmas.List.Folds.{fold-map}
-use Rattle.days.specs.Lists.{change_first, greatest_of}
-use Rattle.days.proofs.SumsOver.{one_if}
+use Rattle.days.specs.Lists.{change_first}
 
 module _ {X Y : Type 0} (g : X → Y) where
   -- the first element that passes is changed before the map or after it
@@ -21,12 +18,3 @@ module _ {X Y : Type 0} (g : X → Y) where
   map_unchanged p f same (x ∷ xs) =
       ⊎_elim (λ passes. rw passes (ap (λ y. y ∷ map g xs) (same x passes)))
       (λ fails. rw fails (ap (λ ys. g x ∷ ys) (map_unchanged p f same xs))) (cases_Bool (p x))
-
-  -- how many pass after a map
-  pub count_map : (p : Y → Bool) (xs : List X) → count_by p (map g xs) ≡ count_by (λ x. p (g x)) xs
-  count_map p xs = fold-map (λ sum y. sum + one_if (p y)) g 0 xs
-
-  -- the greatest number after a map
-  pub greatest_of_map : (f : Y → ℕ) (xs : List X) → greatest_of f (map g xs) ≡ greatest_of (λ x. f (g x)) xs
-  greatest_of_map f [] = refl
-  greatest_of_map f (x ∷ xs) = ap (max (f (g x))) (greatest_of_map f xs)
