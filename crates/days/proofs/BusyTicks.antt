@@ -1,6 +1,7 @@
 -- A busy window through one served tick, while a job over its level is unfinished: the tick goes to a job over the level,
 -- or to the one that is held and blocks it.
 use Rattle.std.proofs.Common.{◌≡◌, ℕ, ◌+◌, ◌-◌, ◌<◌, ◌≤◌, true, false, not, eqb, leb, subst, ⊎_elim, arith}
+use Rattle.std.specs.List.{list_any}
 use Rattle.std.proofs.lemmas.Bool.{cases_Bool, both_ways, and_from, and_right, not_from_false, le-leb}
 use Rattle.model.specs.Analysis.{Parts, tasks, blocked, blocking}
 use Rattle.model.specs.Sums.{when}
@@ -8,7 +9,6 @@ use Rattle.model.specs.Tables.{Lawful}
 use Rattle.model.specs.declared.released.Released.{Released}
 use Rattle.model.proofs.SumLaws.{greatest_at}
 use Rattle.days.specs.Jobs.{held, unfinished, released}
-use Rattle.days.specs.Lists.{any}
 use Rattle.days.specs.Rules.{State}
 use Rattle.days.specs.declared.command.Mark.{Mark}
 use Rattle.days.specs.declared.job.Job.{Job}
@@ -37,7 +37,7 @@ module _ (m : Parts) (lawful : Lawful m) (order_tasks : m.order.tasks ≡ m.arri
       ⊎_elim (λ some. serves.alone some)
       (λ none. absurd (both_ways (over m v x) below
       (lawful.order.carries (released x) (released q) v ordered.2 ordered.1 ordered.0 (serves.foremost none q member unended) is)))
-      (cases_Bool (any held s.jobs))
+      (cases_Bool (list_any held s.jobs))
 
   -- a tick of a job over the level
   busy_over : over m v x ≡ true → Busy m v (next s mark x) w b

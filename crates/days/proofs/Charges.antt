@@ -1,6 +1,7 @@
 -- What the jobs over a level can have received since a tick: each task's jobs are charged their cost, its own up to some
 -- length, those of another task within its reach.
 use Rattle.std.proofs.Common.{◌≡◌, ℕ, ◌+◌, ◌-◌, ◌*◌, ◌<◌, ◌≤◌, Bool, true, false, cond, eqb, leb, List, refl, subst, ⊎_elim, mul-le-mul_left, arith}
+use Rattle.std.specs.List.{sum_by}
 use Rattle.std.proofs.lemmas.Bool.{cases_eq, cases_lt, and_parts, leb-true, eq-eqb, eqb-true, ne_eqb}
 use Rattle.model.specs.Analysis.{Parts, tasks, work, others_work}
 use Rattle.model.specs.Arrivals.{last_length}
@@ -13,17 +14,16 @@ use Rattle.model.specs.declared.released.Released.{Released}
 use Rattle.model.proofs.AnalysisLaws.{within_le}
 use Rattle.model.proofs.SumLaws.{when_below}
 use Rattle.days.specs.Jobs.{of_task}
-use Rattle.days.specs.Lists.{sum_over}
 use Rattle.days.specs.Rules.{State}
 use Rattle.days.specs.declared.job.Job.{Job}
 use Rattle.days.proofs.Members.{In}
 use Rattle.days.proofs.Invariants.{Sound, in_span, released_in, over, since_over, received_over}
 use Rattle.days.proofs.Spans.{in_span_from}
-use Rattle.days.proofs.SumsOver.{sum_le, sum_slack, sum_scaled}
+use Rattle.days.proofs.SumsOver.{one_if, sum_le, sum_slack, sum_scaled}
 use Rattle.days.proofs.SumsByTask.{total_but_one, sum_by_task}
 
 -- a test lets through a number as often as it passes
-when_times : (b : Bool) (n : ℕ) → when b n ≡ n * when b 1
+when_times : (b : Bool) (n : ℕ) → when b n ≡ n * one_if b
 when_times true n = omega arith
 when_times false n = omega arith
 
@@ -42,22 +42,22 @@ module _ (m : Parts) (v : Released) (w e d : ℕ) where
   charge j = when (in_span j.task w (extent j.task) j) (m.sections.cost j.task)
 
   -- the jobs of one task are charged its cost as often as it is released
-  task_charge : (k : ℕ) (jobs : List Job) → sum_over (λ j. when (of_task k j) (charge j)) jobs ≤ m.sections.cost k * released_in k w (extent k) jobs
+  task_charge : (k : ℕ) (jobs : List Job) → sum_by (λ j. when (of_task k j) (charge j)) jobs ≤ m.sections.cost k * released_in k w (extent k) jobs
   task_charge k jobs =
       let cost = m.sections.cost k in
-      let terms = sum_le (λ j. when (of_task k j) (charge j)) (λ j. cost * when (in_span k w (extent k) j) 1) jobs (λ j _.
-      when_below (of_task k j) (charge j) (cost * when (in_span k w (extent k) j) 1) (λ is.
-      subst (λ k. charge j ≤ m.sections.cost k * when (in_span k w (extent k) j) 1) (eqb-true j.task k is)
+      let terms = sum_le (λ j. when (of_task k j) (charge j)) (λ j. cost * one_if (in_span k w (extent k) j)) jobs (λ j _.
+      when_below (of_task k j) (charge j) (cost * one_if (in_span k w (extent k) j)) (λ is.
+      subst (λ k. charge j ≤ m.sections.cost k * one_if (in_span k w (extent k) j)) (eqb-true j.task k is)
       (omega (arith, when_times (in_span j.task w (extent j.task) j) (m.sections.cost j.task))))) in
-      omega (arith, sum_scaled cost (λ j. when (in_span k w (extent k) j) 1) jobs)
+      omega (arith, sum_scaled cost (λ j. one_if (in_span k w (extent k) j)) jobs)
 
 module _ (m : Parts) (lawful : Lawful m) (order_tasks : m.order.tasks ≡ m.arrivals.tasks)
     (s : State) (sound : Sound m s) (v : Released) (has : v.task < tasks m) (w e d : ℕ) (early : w ≤ v.at) (last : d ≤ last_length) where
   -- all jobs are charged at most what their task can ask for
-  all_charge : sum_over (charge m v w e d) s.jobs ≤ m.sections.cost v.task * released_in v.task w e s.jobs + others_work m v.task (v.at - w) d
+  all_charge : sum_by (charge m v w e d) s.jobs ≤ m.sections.cost v.task * released_in v.task w e s.jobs + others_work m v.task (v.at - w) d
   all_charge =
       let i = v.task in
-      let term = λ (k : ℕ). sum_over (λ j. when (of_task k j) (charge m v w e d j)) s.jobs in
+      let term = λ (k : ℕ). sum_by (λ j. when (of_task k j) (charge m v w e d j)) s.jobs in
       let own : term i ≤ m.sections.cost i * released_in i w e s.jobs = rw (eq-eqb i i refl) at (task_charge m v w e d i s.jobs) in
       let split = sum_by_task (charge m v w e d) (tasks m) s.jobs sound.known in
       let others = total_but_one (tasks m) i _ term (λ o. work m o (within (m.order.reach i o (v.at - w)) d)) has own (λ o other differs.

@@ -1,12 +1,12 @@
 -- Crowding: a release that crowds no span from a release of its task to now crowds no span at all.
 use Rattle.std.proofs.Common.{◌≡◌, ℕ, ◌+◌, ◌-◌, ◌<◌, ◌≤◌, Bool, true, false, ◌&&◌, eqb, leb, List, Some, refl, ap, subst, ⊎_elim, arith}
+use Rattle.std.specs.List.{find}
 use Rattle.std.proofs.lemmas.Bool.{eqb-true, eq-eqb, leb-true, le-leb, ltb-false, and_parts, and_from, cases_Bool}
+use Rattle.std.proofs.lemmas.List.Sums.{sum_by_push}
 use Rattle.model.specs.Analysis.{Parts, tasks}
 use Rattle.model.specs.Arrivals.{last_length}
-use Rattle.model.specs.Sums.{when}
 use Rattle.model.specs.Tables.{Lawful}
 use Rattle.days.specs.Jobs.{of_task, new_job}
-use Rattle.days.specs.Lists.{first}
 use Rattle.days.specs.Rules.{State, after, releases, crowding}
 use Rattle.days.specs.declared.command.Command.TheVariants.{Release}
 use Rattle.days.specs.declared.job.Job.{Job}
@@ -15,7 +15,7 @@ use Rattle.days.proofs.Invariants.{in_span, released_in, Sorted, Sound}
 use Rattle.days.proofs.MemberLaws.{first_in, any_first, some_any, push_new}
 use Rattle.days.proofs.SortedLaws.{sorted_push, first_earliest}
 use Rattle.days.proofs.Spans.{in_span_says}
-use Rattle.days.proofs.SumsOver.{sum_push, how_many_le}
+use Rattle.days.proofs.SumsOver.{one_if, count_le}
 
 -- a release of task k from tick a on
 abbrev from_tick : ℕ → ℕ → Job → Bool
@@ -43,11 +43,11 @@ module _ (m : Parts) (lawful : Lawful m) (s : State) (k : ℕ) (has : k < tasks 
   with_new = (after s (Release k)).jobs
 
   -- from tick a on, the releases of the task are those from its first one on, which are not too many
-  few_from : (a d : ℕ) → d ≤ last_length → a ≤ s.now → s.now < a + d → (y : Job) → first (from_tick k a) with_new ≡ Some y → released_in k a d with_new ≤ m.arrivals.count k d
+  few_from : (a d : ℕ) → d ≤ last_length → a ≤ s.now → s.now < a + d → (y : Job) → find (from_tick k a) with_new ≡ Some y → released_in k a d with_new ≤ m.arrivals.count k d
   few_from a d last begun before y found =
       let there = first_in (from_tick k a) with_new y found in
       let tests = and_parts (of_task k y) (leb a y.release) there.1 in
-      let fewer = how_many_le (in_span k a d) (from_tick k y.release) with_new (λ j within counted. from_first j within (span_from k a d j counted)) in
+      let fewer = count_le (in_span k a d) (from_tick k y.release) with_new (λ j within counted. from_first j within (span_from k a d j counted)) in
       let few = uncrowded_releases m s.now k with_new y (eqb-true y.task k tests.0) (uncrowded y there.0) in
       let after-a = leb-true a y.release tests.1 in
       omega (arith, lawful.arrivals.rises k (s.now - y.release + 1) d has (omega arith) last)
@@ -72,7 +72,7 @@ module _ (m : Parts) (lawful : Lawful m) (s : State) (k : ℕ) (has : k < tasks 
       ⊎_elim
       (λ counted. let is = in_span_says i a d (new_job k s.now) counted in
       subst (λ n. released_in n a d with_new ≤ m.arrivals.count n d) is.0 (shrinks a d last is.1 is.2))
-      (λ outside. let more = sum_push (λ j. when (in_span i a d j) 1) s.jobs (new_job k s.now) in
-      let nothing : when (in_span i a d (new_job k s.now)) 1 ≡ 0 = ap (λ b. when b 1) outside in
+      (λ outside. let more = sum_by_push (λ j. one_if (in_span i a d j)) s.jobs (new_job k s.now) in
+      let nothing : one_if (in_span i a d (new_job k s.now)) ≡ 0 = ap (λ b. one_if b) outside in
       omega (arith, sound.curve i a d known last))
       (cases_Bool (in_span i a d (new_job k s.now)))

@@ -1,12 +1,12 @@
 -- What every state of a book keeps, and what the proof of the promise carries through a day.
 use Rattle.std.proofs.Common.{◌≡◌, ℕ, ◌+◌, ◌-◌, ◌*◌, ◌<◌, ◌≤◌, Bool, true, false, ◌&&◌, eqb, ltb, leb, List, [], ◌∷◌, Some}
+use Rattle.std.specs.List.{count_by, find, list_any, sum_by}
 use Rattle.model.specs.Analysis.{Parts, tasks, blocked, others_work, window, ready, ending, bound}
 use Rattle.model.specs.Arrivals.{last_length}
 use Rattle.model.specs.Order.{job}
 use Rattle.model.specs.Sums.{when}
 use Rattle.model.specs.declared.released.Released.{Released}
 use Rattle.days.specs.Jobs.{held, unfinished, of_task, pending, released, allowed}
-use Rattle.days.specs.Lists.{any, first, sum_over, how_many}
 use Rattle.days.specs.Rules.{State, last_tick}
 use Rattle.days.specs.declared.command.Mark.{Mark}
 use Rattle.days.specs.declared.job.Job.{Job}
@@ -18,7 +18,7 @@ in_span k a d j = of_task k j && (leb a j.release && ltb j.release (a + d))
 
 -- how many they are
 abbrev pub released_in : ℕ → ℕ → ℕ → List Job → ℕ
-released_in k a d jobs = how_many (in_span k a d) jobs
+released_in k a d jobs = count_by (in_span k a d) jobs
 
 -- releases never fall along the list
 abbrev pub Sorted : List Job → Type 0
@@ -43,7 +43,7 @@ module _ (m : Parts) where
     pub within_cost : (j : Job) → In j s.jobs → j.received ≤ m.sections.cost j.task
     pub below_cost : (j : Job) → In j s.jobs → unfinished j ≡ true → j.received < m.sections.cost j.task
     -- at most one job is held, and not for as long as its longest stretch
-    pub one_held : how_many held s.jobs ≤ 1
+    pub one_held : count_by held s.jobs ≤ 1
     pub held_since : (j : Job) → In j s.jobs → held j ≡ true → (1 ≤ j.since) × (j.since < m.sections.longest j.task)
     -- an unfinished job in its tail is held
     pub tail_held : (j : Job) → In j s.jobs → unfinished j ≡ true → m.sections.cost j.task - m.sections.tail j.task < j.received → held j ≡ true
@@ -54,11 +54,11 @@ module _ (m : Parts) where
 
   -- A taken service is one tick of the first unfinished job of its task.
   pub record Serves (s : State) (mark : Mark) (x : Job) : Type 0 where
-    pub is_first : first (pending x.task) s.jobs ≡ Some x
+    pub is_first : find (pending x.task) s.jobs ≡ Some x
     -- if a job is held, it is this one
-    pub alone : any held s.jobs ≡ true → held x ≡ true
+    pub alone : list_any held s.jobs ≡ true → held x ≡ true
     -- and else it is ahead of or level with every unfinished job
-    pub foremost : any held s.jobs ≡ false → (l : Job) → In l s.jobs → unfinished l ≡ true → m.order.ahead (released x) (released l) ≡ true
+    pub foremost : list_any held s.jobs ≡ false → (l : Job) → In l s.jobs → unfinished l ≡ true → m.order.ahead (released x) (released l) ≡ true
     -- the sections allow the mark, and there is a tick left
     pub may : allowed m.sections mark x ≡ true
     pub room : s.now < last_tick
@@ -73,7 +73,7 @@ module _ (m : Parts) where
 
   -- the ticks received by the jobs over a level that were released from w on
   abbrev pub received_over : ℕ → Released → List Job → ℕ
-  received_over w v jobs = sum_over (λ j. when (since_over w v j) j.received) jobs
+  received_over w v jobs = sum_by (λ j. when (since_over w v j) j.received) jobs
 
   -- a held job that is not over the level blocks it, and has run longer than the b ticks that were lost to it
   pub record Blocker (v : Released) (b : ℕ) (l : Job) : Type 0 where

@@ -1,15 +1,9 @@
--- Maps: how one more element, a change of one, sums and maxima go through them.
-use Rattle.std.proofs.Common.{◌≡◌, ℕ, ◌+◌, max, Bool, true, List, [], ◌∷◌, ◌++◌, map, refl, ap, ⊎_elim}
+-- Maps: how a change of one element goes through them.
+use Rattle.std.proofs.Common.{◌≡◌, Bool, true, List, [], ◌∷◌, map, refl, ap, ⊎_elim}
 use Rattle.std.proofs.lemmas.Bool.{cases_Bool}
-use Rattle.model.specs.Sums.{when}
-use Rattle.days.specs.Lists.{change_first, sum_over, how_many, greatest_of}
+use Rattle.days.specs.Lists.{change_first}
 
 module _ {X Y : Type 0} (g : X → Y) where
-  -- a map of one element more
-  pub map_push : (xs : List X) (x : X) → map g (xs ++ x ∷ []) ≡ map g xs ++ g x ∷ []
-  map_push [] x = refl
-  map_push (y ∷ xs) x = rw (map_push xs x)
-
   -- the first element that passes is changed before the map or after it
   pub map_changed : (p : X → Bool) (q : Y → Bool) (f : X → X) (h : Y → Y) → ((x : X) → q (g x) ≡ p x) → ((x : X) → p x ≡ true → g (f x) ≡ h (g x))
       → (xs : List X) → map g (change_first p f xs) ≡ change_first q h (map g xs)
@@ -24,17 +18,3 @@ module _ {X Y : Type 0} (g : X → Y) where
   map_unchanged p f same (x ∷ xs) =
       ⊎_elim (λ passes. rw passes (ap (λ y. y ∷ map g xs) (same x passes)))
       (λ fails. rw fails (ap (λ ys. g x ∷ ys) (map_unchanged p f same xs))) (cases_Bool (p x))
-
-  -- a sum over a map
-  sum_over_map : (f : Y → ℕ) (xs : List X) → sum_over f (map g xs) ≡ sum_over (λ x. f (g x)) xs
-  sum_over_map f [] = refl
-  sum_over_map f (x ∷ xs) = ap (λ sum. f (g x) + sum) (sum_over_map f xs)
-
-  -- how many pass after a map
-  pub how_many_map : (p : Y → Bool) (xs : List X) → how_many p (map g xs) ≡ how_many (λ x. p (g x)) xs
-  how_many_map p xs = sum_over_map (λ y. when (p y) 1) xs
-
-  -- the greatest number after a map
-  pub greatest_of_map : (f : Y → ℕ) (xs : List X) → greatest_of f (map g xs) ≡ greatest_of (λ x. f (g x)) xs
-  greatest_of_map f [] = refl
-  greatest_of_map f (x ∷ xs) = ap (max (f (g x))) (greatest_of_map f xs)

@@ -1,52 +1,52 @@
 -- Members of a list: what the tests over a list say of each, what the first that passes is, and what holds of every
 -- member of a list that is longer by one or changed in one place.
 use Rattle.std.proofs.Common.{◌≡◌, ℕ, Bool, true, false, List, [], ◌∷◌, ◌++◌, Some, sym, refl, subst, inl, inr, ⊎_elim, arith}
-use Rattle.std.specs.List.{AllByRecursion}
+use Rattle.std.specs.List.{AllByRecursion, find, list_any}
 use Rattle.std.proofs.lemmas.Bool.{cases_Bool, or_parts, false≢true, both_ways}
-use Rattle.days.specs.Lists.{any, first, change_first}
+use Rattle.days.specs.Lists.{change_first}
 use Rattle.days.proofs.Members.{In}
 
 module _ {X : Type 0} (p : X → Bool) where
   -- the head is the first that passes, if it does
-  pub first_here : (y : X) (ys : List X) (x : X) → p y ≡ true → first p (y ∷ ys) ≡ Some x → y ≡ x
+  pub first_here : (y : X) (ys : List X) (x : X) → p y ≡ true → find p (y ∷ ys) ≡ Some x → y ≡ x
   first_here y ys x passes found = let here : Some y ≡ Some x = rw passes at found in cc
 
   -- the first element that passes stands in the list, and passes
-  pub first_in : (xs : List X) (x : X) → first p xs ≡ Some x → In x xs × (p x ≡ true)
+  pub first_in : (xs : List X) (x : X) → find p xs ≡ Some x → In x xs × (p x ≡ true)
   first_in [] x found = absurd (let z : ◌≡◌ {A = ℕ} 0 1 = cc in omega arith)
   first_in (y ∷ ys) x found =
       ⊎_elim (λ passes. let same = first_here y ys x passes found in (inl (sym same), rw same at passes))
       (λ fails. let later = first_in ys x (rw fails at found) in (inr later.0, later.1)) (cases_Bool (p y))
 
   -- where an element passes, the first that does is found
-  pub any_first : (xs : List X) → any p xs ≡ true → (x : X) × (first p xs ≡ Some x)
+  pub any_first : (xs : List X) → list_any p xs ≡ true → (x : X) × (find p xs ≡ Some x)
   any_first [] some = absurd (false≢true some)
   any_first (y ∷ ys) some =
       ⊎_elim (λ passes. (y, rw passes)) (λ fails. rw fails (any_first ys (rw fails at some))) (cases_Bool (p y))
 
   -- where one passes, a member does
-  pub any_some : (xs : List X) → any p xs ≡ true → (x : X) × In x xs × (p x ≡ true)
+  pub any_some : (xs : List X) → list_any p xs ≡ true → (x : X) × In x xs × (p x ≡ true)
   any_some xs some =
       let one = any_first xs some in
       let there = first_in xs one.0 one.1 in
       (one.0, there.0, there.1)
 
   -- where none passes, no member does
-  pub any_none : (xs : List X) → any p xs ≡ false → (x : X) → In x xs → p x ≡ false
+  pub any_none : (xs : List X) → list_any p xs ≡ false → (x : X) → In x xs → p x ≡ false
   any_none [] none x member = absurd member
   any_none (y ∷ ys) none x member =
-      let both = or_parts (p y) (any p ys) none in
+      let both = or_parts (p y) (list_any p ys) none in
       ⊎_elim (λ here. rw here both.0) (any_none ys both.1 x) member
 
   -- where no member passes, none does
-  pub none_any : (xs : List X) → ((x : X) → In x xs → p x ≡ false) → any p xs ≡ false
+  pub none_any : (xs : List X) → ((x : X) → In x xs → p x ≡ false) → list_any p xs ≡ false
   none_any [] each = refl
   none_any (y ∷ ys) each = rw (each y (inl refl)) (none_any ys (λ x there. each x (inr there)))
 
   -- where a member passes, one does
-  pub some_any : (xs : List X) (x : X) → In x xs → p x ≡ true → any p xs ≡ true
+  pub some_any : (xs : List X) (x : X) → In x xs → p x ≡ true → list_any p xs ≡ true
   some_any xs x member passes =
-      ⊎_elim (λ some. some) (λ none. absurd (both_ways (p x) (any_none xs none x member) passes)) (cases_Bool (any p xs))
+      ⊎_elim (λ some. some) (λ none. absurd (both_ways (p x) (any_none xs none x member) passes)) (cases_Bool (list_any p xs))
 
 module _ {X : Type 0} where
   -- one more at the end is a member
@@ -55,7 +55,7 @@ module _ {X : Type 0} where
   push_new (y ∷ ys) x = inr (push_new ys x)
 
   -- what was made of the first that passes is a member
-  pub changed_new : (p : X → Bool) (f : X → X) (xs : List X) (x : X) → first p xs ≡ Some x → In (f x) (change_first p f xs)
+  pub changed_new : (p : X → Bool) (f : X → X) (xs : List X) (x : X) → find p xs ≡ Some x → In (f x) (change_first p f xs)
   changed_new p f [] x found = absurd (let z : ◌≡◌ {A = ℕ} 0 1 = cc in omega arith)
   changed_new p f (y ∷ ys) x found =
       ⊎_elim (λ passes. let same = first_here p y ys x passes found in rw passes (inl (rw same refl)))
@@ -69,7 +69,7 @@ module _ {X : Type 0} where
         ⊎_elim (λ here. old y (inl here)) (each_pushed zs x new (λ y there. old y (inr there)) y) member
 
     -- what holds of what was made of the first that passes, and of every member before, holds of every member of the changed list
-    pub each_changed : (p : X → Bool) (f : X → X) (xs : List X) (x : X) → first p xs ≡ Some x → P (f x) → ((y : X) → In y xs → P y)
+    pub each_changed : (p : X → Bool) (f : X → X) (xs : List X) (x : X) → find p xs ≡ Some x → P (f x) → ((y : X) → In y xs → P y)
         → (y : X) → In y (change_first p f xs) → P y
     each_changed p f [] x found new old y member = absurd member
     each_changed p f (z ∷ zs) x found new old y member =

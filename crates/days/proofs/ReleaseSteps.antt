@@ -1,6 +1,7 @@
 -- The levels and the unfinished jobs of a timely state through a release, and the busy window that the new job finds.
 use Rattle.std.proofs.Common.{◌≡◌, ℕ, ◌+◌, ◌-◌, ◌<◌, ◌≤◌, true, false, refl, mul-le-mul_left, arith}
 use Rattle.std.proofs.lemmas.Bool.{false≢true}
+use Rattle.std.proofs.lemmas.List.Sums.{sum_by_push}
 use Rattle.model.specs.Analysis.{Parts, tasks}
 use Rattle.model.specs.Order.{job}
 use Rattle.model.specs.Sums.{when}
@@ -15,14 +16,14 @@ use Rattle.days.proofs.Invariants.{Sound, Blocker, Busy, Level, Waits, Windows, 
 use Rattle.days.proofs.Offsets.{offset_in_window, offset_ready}
 use Rattle.days.proofs.SoundRelease.{each_released}
 use Rattle.days.proofs.Spans.{in_span_from, releases_longer}
-use Rattle.days.proofs.SumsOver.{sum_push}
+use Rattle.days.proofs.SumsOver.{one_if}
 
 module _ (m : Parts) (s : State) (k : ℕ) where
   -- a new job has received nothing
   received_release : (v : Released) (w : ℕ) → received_over m w v (after s (Release k)).jobs ≡ received_over m w v s.jobs
   received_release v w =
       let fresh = new_job k s.now in
-      omega (arith, sum_push (λ j. when (since_over m w v j) j.received) s.jobs fresh, when_below (since_over m w v fresh) 0 0 (λ _. omega arith))
+      omega (arith, sum_by_push (λ j. when (since_over m w v j) j.received) s.jobs fresh, when_below (since_over m w v fresh) 0 0 (λ _. omega arith))
 
   -- a busy window through a release
   busy_release : (v : Released) (w b : ℕ) → Busy m v s w b → Busy m v (after s (Release k)) w b
@@ -39,7 +40,7 @@ module _ (m : Parts) (s : State) (k : ℕ) where
 
   -- no span loses a release
   releases_grow : (i a d : ℕ) → released_in i a d s.jobs ≤ released_in i a d (after s (Release k)).jobs
-  releases_grow i a d = omega (arith, sum_push (λ j. when (in_span i a d j) 1) s.jobs (new_job k s.now))
+  releases_grow i a d = omega (arith, sum_by_push (λ j. one_if (in_span i a d j)) s.jobs (new_job k s.now))
 
   -- a level through a release: what can have been asked for only grows
   pub level_release : (v : Released) → Level m v s → Level m v (after s (Release k))
@@ -79,8 +80,8 @@ module _ (m : Parts) (lawful : Lawful m) (order_tasks : m.order.tasks ≡ m.arri
       let w = level.start in
       let e = s.now - w + 1 in
       let fresh = new_job k s.now in
-      let own : when (in_span k w e fresh) 1 ≡ 1 = rw (in_span_from k w e fresh refl level.busy.begun (omega (arith, level.busy.begun))) in
-      omega (arith, sound-next.curve k w e has (omega (arith, sound.short)), sum_push (λ j. when (in_span k w e j) 1) s.jobs fresh, releases_longer k w d e s.jobs (omega arith))
+      let own : one_if (in_span k w e fresh) ≡ 1 = rw (in_span_from k w e fresh refl level.busy.begun (omega (arith, level.busy.begun))) in
+      omega (arith, sound-next.curve k w e has (omega (arith, sound.short)), sum_by_push (λ j. one_if (in_span k w e j)) s.jobs fresh, releases_longer k w d e s.jobs (omega arith))
 
   -- the busy window that the new job finds
   pub waits_new : Waits m (job k s.now) 0 (after s (Release k))

@@ -1,13 +1,13 @@
 -- In any state all of whose jobs were released before now: where no job over a level is unfinished, its busy window
 -- begins anew.
 use Rattle.std.proofs.Common.{◌≡◌, ◌<◌, ◌≤◌, Bool, true, false, ◌&&◌, leb, ⊎_elim, arith}
+use Rattle.std.specs.List.{list_any}
 use Rattle.std.proofs.lemmas.Bool.{cases_Bool, both_ways, and_from, and_left, and_right, lt-leb, ne_eqb}
 use Rattle.model.specs.Analysis.{Parts, tasks}
 use Rattle.model.specs.Sums.{when}
 use Rattle.model.specs.Tables.{Lawful}
 use Rattle.model.specs.declared.released.Released.{Released}
 use Rattle.days.specs.Jobs.{held, unfinished}
-use Rattle.days.specs.Lists.{any}
 use Rattle.days.specs.Rules.{State}
 use Rattle.days.specs.declared.job.Job.{Job}
 use Rattle.days.proofs.Members.{In}
@@ -21,7 +21,7 @@ module _ (m : Parts) where
   unended_over v j = over m v j && unfinished j
 
   -- where no job is unfinished, no unfinished one is over a level
-  pub none_over : (v : Released) (s : State) → any unfinished s.jobs ≡ false → any (unended_over v) s.jobs ≡ false
+  pub none_over : (v : Released) (s : State) → list_any unfinished s.jobs ≡ false → list_any (unended_over v) s.jobs ≡ false
   none_over v s none =
       none_any (unended_over v) s.jobs (λ j member. and_right (over m v j) (unfinished j) (any_none unfinished s.jobs none j member))
 
@@ -40,7 +40,7 @@ module _ (m : Parts) (lawful : Lawful m) (order_tasks : m.order.tasks ≡ m.arri
       }
 
   -- a busy window of no ticks
-  restart : any (unended_over m v) s.jobs ≡ false → Busy m v s s.now 0
+  restart : list_any (unended_over m v) s.jobs ≡ false → Busy m v s s.now 0
   restart none =
       let nothing = sum_none (λ j. when (since_over m s.now v j) j.received) s.jobs (λ j member.
       rw (and_left (leb s.now j.release) (over m v j) (lt-leb s.now j.release (past j member)))) in
@@ -55,5 +55,5 @@ module _ (m : Parts) (lawful : Lawful m) (order_tasks : m.order.tasks ≡ m.arri
       }
 
   -- The level begins anew.
-  pub restarted : any (unended_over m v) s.jobs ≡ false → Level m v s
+  pub restarted : list_any (unended_over m v) s.jobs ≡ false → Level m v s
   restarted none = record { start = s.now; lost = 0; busy = restart none; demanded = λ d positive short. absurd (omega arith) }

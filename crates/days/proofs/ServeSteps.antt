@@ -1,11 +1,11 @@
 -- The levels and the unfinished jobs of a timely state through one served tick.
 use Rattle.std.proofs.Common.{◌≡◌, ℕ, ◌+◌, ◌-◌, ◌<◌, ◌≤◌, true, sym, subst, ⊎_elim, arith}
+use Rattle.std.specs.List.{list_any}
 use Rattle.std.proofs.lemmas.Bool.{cases_Bool, cases_lt, both_ways, and_parts}
 use Rattle.model.specs.Analysis.{Parts, tasks, ending}
 use Rattle.model.specs.Tables.{Lawful}
 use Rattle.model.specs.declared.released.Released.{Released}
 use Rattle.days.specs.Jobs.{held, unfinished, released}
-use Rattle.days.specs.Lists.{any}
 use Rattle.days.specs.Rules.{State}
 use Rattle.days.specs.declared.command.Mark.{Mark}
 use Rattle.days.specs.declared.job.Job.{Job}
@@ -58,7 +58,7 @@ module _ (m : Parts) (lawful : Lawful m) (order_tasks : m.order.tasks ≡ m.arri
       let parts = and_parts (over m v q.0) (unfinished q.0) q.2 in
       level_goes_on v has later level q.0 q.1 parts.0 parts.1)
       (λ none. restarted m lawful order_tasks (next s mark x) sound-next v has later past_after none)
-      (cases_Bool (any (unended_over m v) (next s mark x).jobs))
+      (cases_Bool (list_any (unended_over m v) (next s mark x).jobs))
 
   -- an unfinished job through the tick, from what it had received before, if in its tail it ends in time
   waits_goes_on : (j : Job) → In j (next s mark x).jobs → unfinished j ≡ true → (r : ℕ) → r ≤ j.received → (waits : Waits m (released j) r s)

@@ -1,8 +1,9 @@
 -- Jobs in order of release: one more at the end and a change of one keep the order, and the first job that passes a
 -- test is the earliest that does.
 use Rattle.std.proofs.Common.{◌≡◌, ◌≤◌, Bool, true, List, [], ◌∷◌, ◌++◌, Some, refl, inl, inr, ⊎_elim, le_refl, arith}
+use Rattle.std.specs.List.{find}
 use Rattle.std.proofs.lemmas.Bool.{cases_Bool, both_ways}
-use Rattle.days.specs.Lists.{first, change_first}
+use Rattle.days.specs.Lists.{change_first}
 use Rattle.days.specs.declared.job.Job.{Job}
 use Rattle.days.proofs.Members.{In}
 use Rattle.days.proofs.Invariants.{Sorted}
@@ -25,7 +26,7 @@ sorted_changed p f same (x ∷ jobs) sorted =
     (cases_Bool (p x))
 
 -- the first job that passes is the earliest that does
-pub first_earliest : (p : Job → Bool) (jobs : List Job) (x : Job) → Sorted jobs → first p jobs ≡ Some x → (l : Job) → In l jobs → p l ≡ true → x.release ≤ l.release
+pub first_earliest : (p : Job → Bool) (jobs : List Job) (x : Job) → Sorted jobs → find p jobs ≡ Some x → (l : Job) → In l jobs → p l ≡ true → x.release ≤ l.release
 first_earliest p [] x sorted found l within passes = absurd within
 first_earliest p (y ∷ jobs) x sorted found l within passes =
     ⊎_elim

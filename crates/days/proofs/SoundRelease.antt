@@ -1,8 +1,8 @@
 -- What every state keeps holds of a new book, and a release and an idling keep it.
 use Rattle.std.proofs.Common.{◌≡◌, ℕ, ◌+◌, ◌-◌, ◌<◌, ◌≤◌, true, false, refl, arith}
 use Rattle.std.proofs.lemmas.Bool.{false≢true}
+use Rattle.std.proofs.lemmas.List.Sums.{sum_by_push}
 use Rattle.model.specs.Analysis.{Parts, tasks}
-use Rattle.model.specs.Sums.{when}
 use Rattle.model.specs.Tables.{Lawful}
 use Rattle.days.specs.Jobs.{held, unfinished, new_job}
 use Rattle.days.specs.Rules.{State, new_state, last_tick, after, crowding}
@@ -12,7 +12,7 @@ use Rattle.days.proofs.Members.{In}
 use Rattle.days.proofs.Invariants.{InTurn, Sound}
 use Rattle.days.proofs.Crowding.{released_sorted, released_curve}
 use Rattle.days.proofs.MemberLaws.{each_pushed}
-use Rattle.days.proofs.SumsOver.{sum_push}
+use Rattle.days.proofs.SumsOver.{one_if}
 
 -- what holds of the new job, and held of every job before, holds of every job
 pub each_released : (s : State) (k : ℕ) (P : Job → Type 0) → P (new_job k s.now) → ((j : Job) → In j s.jobs → P j) → (j : Job) → In j (after s (Release k)).jobs → P j
@@ -67,7 +67,7 @@ module _ (m : Parts) where
           sorted = released_sorted m s k sound;
           within_cost = each_released s k (λ j. j.received ≤ m.sections.cost j.task) (omega arith) sound.within_cost;
           below_cost = each_released s k (λ j. unfinished j ≡ true → j.received < m.sections.cost j.task) (λ _. costs) sound.below_cost;
-          one_held = omega (arith, sum_push (λ j. when (held j) 1) s.jobs (new_job k s.now), sound.one_held);
+          one_held = omega (arith, sum_by_push (λ j. one_if (held j)) s.jobs (new_job k s.now), sound.one_held);
           held_since = each_released s k (λ j. held j ≡ true → (1 ≤ j.since) × (j.since < m.sections.longest j.task)) (λ holds. absurd (false≢true holds)) sound.held_since;
           tail_held =
               each_released s k (λ j. unfinished j ≡ true → m.sections.cost j.task - m.sections.tail j.task < j.received → held j ≡ true)

@@ -4,7 +4,7 @@ use Rattle.std.proofs.lemmas.Bool.{and_parts, and_from, eqb-true, eq-eqb, leb-tr
 use Rattle.days.specs.Jobs.{of_task}
 use Rattle.days.specs.declared.job.Job.{Job}
 use Rattle.days.proofs.Invariants.{in_span, released_in}
-use Rattle.days.proofs.SumsOver.{how_many_le}
+use Rattle.days.proofs.SumsOver.{count_le}
 
 -- a job that counts in a span is of the task, and was released in the span
 pub in_span_says : (k a d : ℕ) (j : Job) → in_span k a d j ≡ true → (j.task ≡ k) × (a ≤ j.release) × (j.release < a + d)
@@ -22,5 +22,5 @@ in_span_from k a d j same after before =
 -- a longer span has no fewer releases
 pub releases_longer : (k a d e : ℕ) (jobs : List Job) → d ≤ e → released_in k a d jobs ≤ released_in k a e jobs
 releases_longer k a d e jobs longer =
-    how_many_le (in_span k a d) (in_span k a e) jobs
+    count_le (in_span k a d) (in_span k a e) jobs
     (λ j _ counts. let is = in_span_says k a d j counts in in_span_from k a e j is.0 is.1 (omega (arith, is.2)))

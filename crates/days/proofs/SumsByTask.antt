@@ -1,10 +1,11 @@
 -- Sums over tasks, and a sum over jobs as the sum over tasks of the sums over their jobs.
 use Rattle.std.proofs.Common.{◌≡◌, ℕ, zero, suc, ◌+◌, ◌<◌, ◌≤◌, not, eqb, List, [], ◌∷◌, sym, refl, inl, inr, ⊎_elim, arith}
+use Rattle.std.specs.List.{sum_by}
 use Rattle.std.proofs.lemmas.Bool.{cases_eq, eq-eqb, ne_eqb}
+use Rattle.std.proofs.lemmas.List.Sums.{sum_by-cons}
 use Rattle.model.specs.Sums.{when, total}
 use Rattle.model.proofs.SumLaws.{total_le, total_bound}
 use Rattle.days.specs.Jobs.{of_task}
-use Rattle.days.specs.Lists.{sum_over}
 use Rattle.days.specs.declared.job.Job.{Job}
 use Rattle.days.proofs.Members.{In}
 
@@ -17,6 +18,12 @@ total_plus (suc n) f g = omega (arith, total_plus n f g)
 -- a sum of nothing but zeros
 total_none : (n : ℕ) (f : ℕ → ℕ) → ((k : ℕ) → k < n → f k ≡ 0) → total n f ≡ 0
 total_none n f each = omega (arith, total_bound n 0 f (λ k below. omega (arith, each k below)))
+
+-- a sum of the same terms
+total_same : (n : ℕ) (f g : ℕ → ℕ) → ((k : ℕ) → f k ≡ g k) → total n f ≡ total n g
+unfolding total
+total_same zero f g same = refl
+total_same (suc n) f g same = omega (arith, same n, total_same n f g same)
 
 -- a sum with one term
 total_only : (n i c : ℕ) → i < n → total n (λ k. when (eqb i k) c) ≡ c
@@ -36,8 +43,10 @@ total_but_one n i own f g has first each =
     omega (arith, total_only n i own has)
 
 -- The jobs of all tasks, task by task.
-pub sum_by_task : (f : Job → ℕ) (n : ℕ) (jobs : List Job) → ((j : Job) → In j jobs → j.task < n) → sum_over f jobs ≡ total n (λ k. sum_over (λ j. when (of_task k j) (f j)) jobs)
+pub sum_by_task : (f : Job → ℕ) (n : ℕ) (jobs : List Job) → ((j : Job) → In j jobs → j.task < n) → sum_by f jobs ≡ total n (λ k. sum_by (λ j. when (of_task k j) (f j)) jobs)
 sum_by_task f n [] known = sym (total_none n (λ k. 0) (λ k below. refl))
 sum_by_task f n (j ∷ jobs) known =
     let later = sum_by_task f n jobs (λ l there. known l (inr there)) in
-    omega (arith, total_only n j.task (f j) (known j (inl refl)), total_plus n (λ k. when (of_task k j) (f j)) (λ k. sum_over (λ l. when (of_task k l) (f l)) jobs))
+    let terms = total_same n (λ k. sum_by (λ l. when (of_task k l) (f l)) (j ∷ jobs)) (λ k. when (of_task k j) (f j) + sum_by (λ l. when (of_task k l) (f l)) jobs)
+    (λ k. sum_by-cons (λ l. when (of_task k l) (f l)) j jobs) in
+    omega (arith, terms, sum_by-cons f j jobs, total_only n j.task (f j) (known j (inl refl)), total_plus n (λ k. when (of_task k j) (f j)) (λ k. sum_by (λ l. when (of_task k l) (f l)) jobs))

@@ -1,6 +1,7 @@
 -- What it says that a command is taken: it breaks none of the rules, and so a release finds room and no crowd, a
 -- service is one tick of the first unfinished job of its task, and an idling finds nothing to do.
 use Rattle.std.proofs.Common.{◌≡◌, ℕ, ◌+◌, ◌<◌, ◌≤◌, Bool, true, false, not, ◌&&◌, length, Some, None, Option, sym, refl, subst, arith}
+use Rattle.std.specs.List.{find, list_any}
 use Rattle.std.proofs.lemmas.Bool.{leb-false, ltb-false, eqb-true, eqb-false, and_parts, not-false, not_from_false, false≢true}
 use Rattle.model.specs.Analysis.{Parts, tasks}
 use Rattle.model.specs.Choice.{if_some}
@@ -8,7 +9,6 @@ use Rattle.model.specs.declared.fault.Fault.{Fault}
 use Rattle.model.specs.declared.fault.Refusal.{Refusal}
 use Rattle.model.proofs.VerdictLaws.{or_else_none}
 use Rattle.days.specs.Jobs.{held, unfinished, of_task, pending, released, allowed}
-use Rattle.days.specs.Lists.{any, first}
 use Rattle.days.specs.Rules.{State, most_jobs, last_tick, after, crowding, more_urgent, of_served, unreadable, full, crowded, absent, another_held, behind, forbidden, broken, refused, answer}
 use Rattle.days.specs.declared.command.Command.{Command}
 use Rattle.days.specs.declared.command.Command.TheVariants.{Release, Serve, Idle}
@@ -74,31 +74,31 @@ module _ (m : Parts) (s : State) where
 
   -- a taken idling takes time that there is, and finds no job held and none unfinished
   pub taken_idling : (n : ℕ) → KeepsRules (Idle n)
-      → (1 ≤ n) × (s.now + n ≤ last_tick) × (any held s.jobs ≡ false) × (any unfinished s.jobs ≡ false)
+      → (1 ≤ n) × (s.now + n ≤ last_tick) × (list_any held s.jobs ≡ false) × (list_any unfinished s.jobs ≡ false)
   taken_idling n kept =
       (omega (arith, eqb-false n 0 kept.readable), ltb-false last_tick (s.now + n) kept.fits, kept.unhindered, kept.urgent)
 
-  module _ (mark : Mark) (k : ℕ) (kept : KeepsRules (Serve mark k)) (x : Job) (found : first (pending k) s.jobs ≡ Some x) where
+  module _ (mark : Mark) (k : ℕ) (kept : KeepsRules (Serve mark k)) (x : Job) (found : find (pending k) s.jobs ≡ Some x) where
     -- what is said of the served job
     says_of : (says : Job → Bool) → of_served m s k says ≡ false → says x ≡ false
-    says_of says denied = if_some_false (first (pending k) s.jobs) says x found denied
+    says_of says denied = if_some_false (find (pending k) s.jobs) says x found denied
 
     -- it is of the task
     its_task : x.task ≡ k
     its_task = eqb-true x.task k (and_parts (of_task k x) (unfinished x) (first_in (pending k) s.jobs x found).1).0
 
     -- no job that is unfinished is more urgent, if none is held
-    its_turn : any held s.jobs ≡ false → (l : Job) → In l s.jobs → unfinished l ≡ true → m.order.ahead (released x) (released l) ≡ true
+    its_turn : list_any held s.jobs ≡ false → (l : Job) → In l s.jobs → unfinished l ≡ true → m.order.ahead (released x) (released l) ≡ true
     its_turn none l within waits =
-        let unserved = and_other _ _ kept.urgent (not_from_false (any held s.jobs) none) in
-        let urgent = any_none (more_urgent m x) s.jobs (says_of (λ j. any (more_urgent m j) s.jobs) unserved) l within in
+        let unserved = and_other _ _ kept.urgent (not_from_false (list_any held s.jobs) none) in
+        let urgent = any_none (more_urgent m x) s.jobs (says_of (λ j. list_any (more_urgent m j) s.jobs) unserved) l within in
         not-false (m.order.ahead (released x) (released l)) (and_other (unfinished l) _ urgent waits)
 
     -- the service is one tick of it
     serves : Serves m s mark x
     serves =
         record {
-          is_first = subst (λ n. first (pending n) s.jobs ≡ Some x) (sym its_task) found;
+          is_first = subst (λ n. find (pending n) s.jobs ≡ Some x) (sym its_task) found;
           alone = λ some. not-false (held x) (says_of (λ j. not (held j)) (and_other _ _ kept.unhindered some));
           foremost = its_turn;
           may = not-false (allowed m.sections mark x) (says_of (λ j. not (allowed m.sections mark j)) kept.permitted);
@@ -108,7 +108,7 @@ module _ (m : Parts) (s : State) where
   -- A taken service is one tick of the first unfinished job of its task.
   pub taken_service : (mark : Mark) (k : ℕ) → KeepsRules (Serve mark k) → (x : Job) × (x.task ≡ k) × Serves m s mark x
   taken_service mark k kept =
-      let one = any_first (pending k) s.jobs (not-false (any (pending k) s.jobs) kept.present) in
+      let one = any_first (pending k) s.jobs (not-false (list_any (pending k) s.jobs) kept.present) in
       (one.0, its_task mark k kept one.0 one.1, serves mark k kept one.0 one.1)
 
 -- a command that is taken was asked for, on a book whose table is accepted, and keeps the rules

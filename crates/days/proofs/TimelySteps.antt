@@ -1,11 +1,11 @@
 -- The busy windows through a day: a new book is timely, and every taken command keeps a state timely.
 use Rattle.std.proofs.Common.{◌≡◌, ℕ, zero, suc, ◌+◌, ◌<◌, ◌≤◌, true, false, refl, add-zero, arith}
+use Rattle.std.specs.List.{list_any}
 use Rattle.std.proofs.lemmas.Bool.{both_ways, true≢false}
 use Rattle.model.specs.Analysis.{Parts, tasks, bound}
 use Rattle.model.specs.Order.{job}
 use Rattle.model.specs.Tables.{Lawful}
 use Rattle.days.specs.Jobs.{unfinished, released}
-use Rattle.days.specs.Lists.{any}
 use Rattle.days.specs.Rules.{State, new_state, after}
 use Rattle.days.specs.declared.command.Command.TheVariants.{Release, Serve, Idle}
 use Rattle.days.specs.declared.command.Mark.{Mark}
@@ -63,7 +63,7 @@ module _ (m : Parts) (lawful : Lawful m) (order_tasks : m.order.tasks ≡ m.arri
           )
 
   -- an idling keeps a state timely, if no job is unfinished: every level begins anew
-  pub timely_idle : (s : State) (n : ℕ) → any unfinished s.jobs ≡ false → Sound m s → Sound m (after s (Idle n)) → Timely m s → Timely m (after s (Idle n))
+  pub timely_idle : (s : State) (n : ℕ) → list_any unfinished s.jobs ≡ false → Sound m s → Sound m (after s (Idle n)) → Timely m s → Timely m (after s (Idle n))
   timely_idle s zero none sound sound-next timely = rw (add-zero s.now) timely
   timely_idle s (suc n) none sound sound-next timely =
       let s' = after s (Idle (suc n)) in

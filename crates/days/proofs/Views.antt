@@ -1,11 +1,12 @@
 -- The reading of a day is the book's view: what is read off the events is what the state shows.
-use Rattle.std.proofs.Common.{◌≡◌, ℕ, ◌+◌, true, cond, not, ◌&&◌, List, [], ◌∷◌, map, Some, None, fold, Option, sym, refl, ap, ◌∙◌}
+use Rattle.std.proofs.Common.{◌≡◌, ℕ, ◌+◌, true, cond, not, ◌&&◌, List, [], ◌∷◌, map, Some, None, fold, Option, sym, refl, ap, ◌∙◌, is_none}
+use Rattle.std.proofs.lemmas.List.{map-append}
 use Rattle.std.proofs.lemmas.List.Sums.{fold_push}
 use Rattle.std.proofs.lemmas.Bool.{and_parts, false≢true}
 use Rattle.model.specs.Analysis.{Parts}
 use Rattle.model.specs.Choice.{if_some}
 use Rattle.model.specs.declared.fault.Fault.{Fault}
-use Rattle.days.specs.Days.{Call, asked, Event, is_none, event, day_of, Led, opened, called, nothing_read, not_ended, ended_at, read_command, read_event, reading}
+use Rattle.days.specs.Days.{Call, asked, Event, event, day_of, Led, opened, called, nothing_read, not_ended, ended_at, read_command, read_event, reading}
 use Rattle.days.specs.Jobs.{is_finished, unfinished, of_task, pending, new_job, next_state, served}
 use Rattle.days.specs.Lists.{change_first}
 use Rattle.days.specs.Rules.{State, new_state, after, answer, left}
@@ -17,7 +18,7 @@ use Rattle.days.specs.declared.command.Mark.TheVariants.{Hold, Open, Done}
 use Rattle.days.specs.declared.job.Job.{Job}
 use Rattle.days.specs.declared.job.JobState.{JobState}
 use Rattle.days.specs.declared.job.JobState.TheVariants.{Waiting, Held, Finished}
-use Rattle.days.proofs.MapLaws.{map_push, map_changed, map_unchanged}
+use Rattle.days.proofs.MapLaws.{map_changed, map_unchanged}
 
 -- no time is shown of a job if it is unfinished
 shows_none : (state : JobState) (time : ℕ) → is_none (shown_time state time) ≡ not (is_finished state)
@@ -68,7 +69,7 @@ module _ (s : State) where
 
   -- what a command makes of the state is what it adds to the reading
   pub read_after : (c : Command) → viewed (after s c) ≡ read_command (viewed s) c
-  read_after (Release k) = ap (λ jobs. record { now = s.now; jobs = jobs }) (map_push shown s.jobs (new_job k s.now))
+  read_after (Release k) = ap (λ jobs. record { now = s.now; jobs = jobs }) (map-append shown s.jobs (new_job k s.now ∷ []))
   read_after (Serve Hold k) = ap (λ jobs. record { now = s.now + 1; jobs = jobs }) (goes_on Hold hold_stays k)
   read_after (Serve Open k) = ap (λ jobs. record { now = s.now + 1; jobs = jobs }) (goes_on Open open_stays k)
   read_after (Serve Done k) = ap (λ jobs. record { now = s.now + 1; jobs = jobs }) (ends k)

@@ -1,6 +1,6 @@
 -- A day of the book: the calls, which of them were taken, and what is read off that alone.
 -- Cited by the promise, and by every call on a book.
-use Rattle.std.specs.Prelude.{◌≡◌, ℕ, ◌+◌, ◌-◌, Bool, true, false, cond, ◌&&◌, List, [], ◌∷◌, ◌++◌, drop, Some, None, fold, Option, ◌==◌}
+use Rattle.std.specs.Prelude.{◌≡◌, ℕ, ◌+◌, ◌-◌, Bool, cond, ◌&&◌, List, [], ◌∷◌, ◌++◌, drop, Some, None, is_none, fold, Option, ◌==◌}
 use Rattle.model.specs.Analysis.{Parts}
 use Rattle.model.specs.Choice.{if_some}
 use Rattle.model.specs.declared.fault.Fault.{Fault}
@@ -29,11 +29,6 @@ pub record Event : Type 0 where
 -- the ticks of an event: those of its command, if it was taken
 abbrev pub event_ticks : Event → ℕ
 event_ticks e = cond e.taken (if_some e.command 0 ticks) 0
-
--- there is nothing
-abbrev pub is_none : {X : Type 0} → Option X → Bool
-is_none None = true
-is_none (Some x) = false
 
 module _ (verdict : Option Fault) (m : Parts) where
   -- what a call on a book is in its day

@@ -1,15 +1,15 @@
 -- The promise: no day is worse than the sheet. And the totals of a day.
 -- Cited by opening and by closing.
-use Rattle.std.specs.Prelude.{ℕ, ◌-◌, ◌<◌, ◌≤◌, Bool, not, ◌&&◌, List, Some, None, Option, ◌==◌}
-use Rattle.std.specs.List.{AllByRecursion}
+use Rattle.std.specs.Prelude.{ℕ, ◌-◌, ◌<◌, ◌≤◌, Bool, ◌&&◌, List, Some, None, is_some, Option, ◌==◌}
+use Rattle.std.specs.List.{AllByRecursion, count_by}
 use Rattle.model.specs.Analysis.{bound}
 use Rattle.model.specs.Choice.{if_some}
 use Rattle.model.specs.Lighter.{Lighter}
 use Rattle.model.specs.Sums.{when}
 use Rattle.model.specs.Tables.{Table, Lawful, Accepted}
 use Rattle.model.specs.declared.fault.Fault.{Fault}
-use Rattle.days.specs.Days.{Call, day_of, Shown, Reading, reading, is_none}
-use Rattle.days.specs.Lists.{how_many, greatest_of}
+use Rattle.days.specs.Days.{Call, day_of, Shown, Reading, reading}
+use Rattle.days.specs.Lists.{greatest_of}
 use Rattle.days.specs.Rules.{new_state}
 
 -- a job that ended took at most so many ticks, and one that has not ended has waited fewer
@@ -37,7 +37,7 @@ NoDayWorseThanHeavier t verdict =
 
 -- a job of task k that ended
 abbrev pub ended : ℕ → Shown → Bool
-ended k j = j.task == k && not (is_none j.took)
+ended k j = j.task == k && is_some j.took
 
 -- the time that a job took, if it is one of task k that ended, and else 0
 abbrev pub time : ℕ → Shown → ℕ
@@ -45,7 +45,7 @@ time k j = when (j.task == k) (if_some j.took 0 (λ ticks. ticks))
 
 -- The totals of a day: how many jobs of task k ended, and the longest time that one took, or 0.
 abbrev pub finished : Reading → ℕ → ℕ
-finished r k = how_many (ended k) r.jobs
+finished r k = count_by (ended k) r.jobs
 
 abbrev pub longest_time : Reading → ℕ → ℕ
 longest_time r k = greatest_of (time k) r.jobs

@@ -1,6 +1,7 @@
 -- The rules of the day book: what it holds, what it answers to a command, and what it holds afterwards.
 -- Cited by every call that obeys a command.
 use Rattle.std.specs.Prelude.{ℕ, ◌+◌, ◌-◌, Bool, false, cond, not, ◌&&◌, List, [], ◌∷◌, ◌++◌, length, Some, None, Option, ◌==◌, nat_le, nat_lt}
+use Rattle.std.specs.List.{count_by, find, list_any}
 use Rattle.model.specs.Analysis.{Parts, tasks}
 use Rattle.model.specs.Choice.{◌or_else◌, if_some}
 use Rattle.model.specs.Faults.{fault, no_task}
@@ -9,7 +10,7 @@ use Rattle.model.specs.declared.fault.Part.TheVariants.{Book}
 use Rattle.model.specs.declared.fault.Refusal.{Refusal}
 use Rattle.model.specs.declared.fault.Refusal.TheVariants as refusal
 use Rattle.days.specs.Jobs.{held, unfinished, of_task, pending, released, new_job, served, allowed}
-use Rattle.days.specs.Lists.{any, first, change_first, how_many}
+use Rattle.days.specs.Lists.{change_first}
 use Rattle.days.specs.declared.command.Command.{Command}
 use Rattle.days.specs.declared.command.Command.TheVariants.{Release, Serve, Idle}
 use Rattle.days.specs.declared.job.Job.{Job}
@@ -51,7 +52,7 @@ after s (Idle n) = record { now = s.now + n; jobs = s.jobs }
 
 -- the releases of task k from a tick on
 abbrev pub releases : ℕ → ℕ → List Job → ℕ
-releases k tick jobs = how_many (λ j. of_task k j && nat_le tick j.release) jobs
+releases k tick jobs = count_by (λ j. of_task k j && nat_le tick j.release) jobs
 
 module _ (m : Parts) where
   -- From the release of j to a tick there are more releases of task k among the jobs than its arrival curve allows.
@@ -69,7 +70,7 @@ broken so why k = cond so (Some (fault why Book k)) None
 module _ (m : Parts) (s : State) where
   -- what is said of the job that a service of task k is for: its first unfinished job; no if there is none
   abbrev pub of_served : ℕ → (Job → Bool) → Bool
-  of_served k says = if_some (first (pending k) s.jobs) false says
+  of_served k says = if_some (find (pending k) s.jobs) false says
 
   -- The rules, by the number of their refusal: each says when a command breaks it.
 
@@ -87,27 +88,27 @@ module _ (m : Parts) (s : State) where
 
   -- 9: with this release, some span from a release of the task to now has more releases than its arrival curve allows
   abbrev pub crowded : Command → Bool
-  crowded (Release k) = let jobs = (after s (Release k)).jobs in any (crowding m s.now k jobs) jobs
+  crowded (Release k) = let jobs = (after s (Release k)).jobs in list_any (crowding m s.now k jobs) jobs
   crowded (Serve mark k) = false
   crowded (Idle n) = false
 
   -- 10: the task has no unfinished job
   abbrev pub absent : Command → Bool
   absent (Release k) = false
-  absent (Serve mark k) = not (any (pending k) s.jobs)
+  absent (Serve mark k) = not (list_any (pending k) s.jobs)
   absent (Idle n) = false
 
   -- 11: a job is held, and it is not the one to be served
   abbrev pub another_held : Command → Bool
   another_held (Release k) = false
-  another_held (Serve mark k) = any held s.jobs && of_served k (λ j. not (held j))
-  another_held (Idle n) = any held s.jobs
+  another_held (Serve mark k) = list_any held s.jobs && of_served k (λ j. not (held j))
+  another_held (Idle n) = list_any held s.jobs
 
   -- 12: no job is held, and an unfinished one is more urgent; nothing is less urgent than idling
   abbrev pub behind : Command → Bool
   behind (Release k) = false
-  behind (Serve mark k) = not (any held s.jobs) && of_served k (λ j. any (more_urgent m j) s.jobs)
-  behind (Idle n) = any unfinished s.jobs
+  behind (Serve mark k) = not (list_any held s.jobs) && of_served k (λ j. list_any (more_urgent m j) s.jobs)
+  behind (Idle n) = list_any unfinished s.jobs
 
   -- 13: the sections do not allow the mark
   abbrev pub forbidden : Command → Bool

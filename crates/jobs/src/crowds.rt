@@ -1,39 +1,31 @@
 // Whether releases come closer together than their arrival curve allows.
-ghost use Rattle.std.specs.Prelude.{◌+◌, ◌-◌, ◌≤◌, ◌&&◌, nat_lt};
-ghost use Rattle.days.specs.Jobs.{of_task};
-ghost use Rattle.days.specs.Rules.{releases};
-ghost use Rattle.analysis.specs.Meant.{meant};
+ghost use Rattle.std.specs.Prelude.{◌≡◌};
+ghost use Rattle.jobs.specs.Crowds.{one_too_many, one_too_many_behind, crowds};
 
-use crate::conditions::{Condition, ReleasedSince};
-use crate::seek::how_many;
-use analysis::parts::Parts;
+use crate::questions::released_since;
 use days::job::Job;
 use model::arrivals::Arrivals;
-use model::order::Order;
-use model::sections::Sections;
+use model::parts::Parts;
 
-// A job of the task from whose release to now there would be too many releases, with one more now.
-#[derive(Drop)]
-pub struct Crowding<'j, 't, R, O, S> {
-    pub parts: Parts<'t, R, O, S>,
-    pub jobs: &'j [Job],
-    pub task: u8,
-    pub now: u32,
-    ghost short: { now ≤ 1000000 },
+// Whether one more release of the task, now, is one too many.
+pub fn is_crowded<P: Parts>(parts: &P, jobs: &[Job], task: u8, now: u32) -> bool
+    ensures { result ≡ crowds (P.meaning parts.now) jobs.now task now }
+{
+    is_one_too_many_behind(parts, jobs, task, now) || is_one_too_many(parts, jobs, task, now, now)
 }
 
-impl<'j, 't, R: Arrivals, O: Order, S: Sections> Condition for Crowding<'j, 't, R, O, S> {
-    ghost meets = { λ s j. of_task s.task j && nat_lt ((meant R.Arrivals.meaning O.Order.meaning S.Sections.meaning s.parts).arrivals.count s.task (s.now - j.release + 1)) (releases s.task j.release s.jobs.now + 1) };
+// Whether it is from some release of the task on.
+fn is_one_too_many_behind<P: Parts>(parts: &P, jobs: &[Job], task: u8, now: u32) -> bool
+    ensures { result ≡ one_too_many_behind (P.meaning parts.now) jobs.now task now }
+{
+    jobs.iter().any(|job| job.task == task && is_one_too_many(parts, jobs, task, now, job.release))
+}
 
-    fn holds(&self, job: &Job) -> bool {
-        if job.task != self.task {
-            return false;
-        }
-        let since = ReleasedSince {
-            task: self.task,
-            tick: job.release,
-        };
-        let length = self.now.saturating_sub(job.release) + 1;
-        self.parts.arrivals.count(self.task, length) <= how_many(self.jobs, &since) as u64
-    }
+// Whether it is from the tick on: more releases than may come in the span from there to now.
+fn is_one_too_many<P: Parts>(parts: &P, jobs: &[Job], task: u8, now: u32, tick: u32) -> bool
+    ensures { result ≡ one_too_many (P.meaning parts.now) jobs.now task now tick }
+{
+    // no count is asked for a longer span
+    let length = now.saturating_sub(tick).saturating_add(1);
+    parts.arrivals().count(task, length) <= released_since(jobs, task, tick) as u64
 }

@@ -1,6 +1,6 @@
-// Questions on jobs: conditions on one job, and what is asked of a list of them.
+// Questions on jobs: what is asked of one job, and what is asked of a list of them.
 #![tactic(auto)]
 
-pub mod conditions;
 pub mod crowds;
-pub mod seek;
+pub mod predicates;
+pub mod questions;

@@ -1,3 +1,4 @@
 pub mod OneMore
+pub mod Places
 pub mod ServeRules
 pub mod Longest

@@ -1,5 +1,6 @@
 -- The answer to a service, once the task is known and the last tick has not come.
 use Rattle.std.proofs.Common.{◌≡◌, ℕ, ◌+◌, ◌<◌, Bool, true, false, cond, not, ◌&&◌, Some, None, Option, refl, arith}
+use Rattle.std.specs.List.{find, list_any}
 use Rattle.std.proofs.lemmas.Bool.{lt-leb, le-ltb}
 use Rattle.model.specs.Analysis.{Parts, tasks}
 use Rattle.model.specs.Choice.{◌or_else◌, if_some}
@@ -9,13 +10,12 @@ use Rattle.model.specs.declared.fault.Part.TheVariants.{Book}
 use Rattle.model.specs.declared.fault.Refusal.{Refusal}
 use Rattle.model.specs.declared.fault.Refusal.TheVariants as refusal
 use Rattle.days.specs.Jobs.{held, pending, allowed}
-use Rattle.days.specs.Lists.{any, first}
 use Rattle.days.specs.Rules.{State, last_tick, more_urgent, broken, refused}
 use Rattle.days.specs.declared.command.Command.TheVariants.{Serve}
 use Rattle.days.specs.declared.command.Mark.{Mark}
 use Rattle.days.specs.declared.job.Job.{Job}
 use Rattle.timeline.specs.Obeyed.{obstacle}
-use Rattle.jobs.proofs.Places.{first_any}
+use Rattle.timeline.proofs.Places.{first_any}
 
 -- what the book says of a task, if there is a reason
 abbrev pub about : ℕ → Option Refusal → Option Fault
@@ -34,10 +34,10 @@ three k false held false false = refl
 
 module _ (m : Parts) (s : State) (mark : Mark) (k : ℕ) (known : k < tasks m) (room : s.now < last_tick) where
   -- the task has no unfinished job
-  pub serve_absent : any (pending k) s.jobs ≡ false → refused m s (Serve mark k) ≡ Some (fault refusal.Absent Book k)
+  pub serve_absent : list_any (pending k) s.jobs ≡ false → refused m s (Serve mark k) ≡ Some (fault refusal.Absent Book k)
   serve_absent none = rw (lt-leb (tasks m) k known, le-ltb last_tick (s.now + 1) (omega arith), none)
 
   -- its first unfinished job may be served or not
-  pub serve_obstacle : (x : Job) → first (pending k) s.jobs ≡ Some x → refused m s (Serve mark k) ≡ about k (obstacle m s.jobs mark x)
+  pub serve_obstacle : (x : Job) → find (pending k) s.jobs ≡ Some x → refused m s (Serve mark k) ≡ about k (obstacle m s.jobs mark x)
   serve_obstacle x found =
-      rw (lt-leb (tasks m) k known, le-ltb last_tick (s.now + 1) (omega arith), first_any (pending k) s.jobs x found, found) (three k (any held s.jobs) (held x) (any (more_urgent m x) s.jobs) (allowed m.sections mark x))
+      rw (lt-leb (tasks m) k known, le-ltb last_tick (s.now + 1) (omega arith), first_any (pending k) s.jobs x found, found) (three k (list_any held s.jobs) (held x) (list_any (more_urgent m x) s.jobs) (allowed m.sections mark x))

@@ -1,13 +1,13 @@
 -- What a command did to a state: its answer by the rules, and the state after it.
 -- Cited by every call that obeys a command.
 use Rattle.std.specs.Prelude.{◌≡◌, cond, List, Some, None, Option}
+use Rattle.std.specs.List.{list_any}
 use Rattle.model.specs.Analysis.{Parts}
 use Rattle.model.specs.Choice.{◌or_else◌, if_some}
 use Rattle.model.specs.declared.fault.Fault.{Fault}
 use Rattle.model.specs.declared.fault.Refusal.{Refusal}
 use Rattle.model.specs.declared.fault.Refusal.TheVariants as refusal
 use Rattle.days.specs.Jobs.{held, allowed}
-use Rattle.days.specs.Lists.{any}
 use Rattle.days.specs.Rules.{State, after, more_urgent, refused}
 use Rattle.days.specs.declared.command.Command.{Command}
 use Rattle.days.specs.declared.command.Mark.{Mark}
@@ -19,8 +19,8 @@ use Rattle.days.specs.declared.job.Job.{Job}
 -- why another job has to be served first
 abbrev pub rival : Parts → List Job → Job → Option Refusal
 rival m jobs j =
-    cond (any held jobs) (cond (held j) None (Some refusal.Held))
-    (cond (any (more_urgent m j) jobs) (Some refusal.Behind) None)
+    cond (list_any held jobs) (cond (held j) None (Some refusal.Held))
+    (cond (list_any (more_urgent m j) jobs) (Some refusal.Behind) None)
 
 -- why a job may not be served for one tick with a mark, among these jobs
 abbrev pub obstacle : Parts → List Job → Mark → Job → Option Refusal

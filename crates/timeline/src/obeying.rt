@@ -1,24 +1,20 @@
 // What the commands do to the time and the jobs.
 ghost use Rattle.std.specs.Prelude.{◌≡◌};
+ghost use Rattle.std.specs.Result.{result_err};
 ghost use Rattle.model.specs.Analysis.{Parts as Meanings};
 ghost use Rattle.model.specs.Faults.{fault};
 ghost use Rattle.model.specs.declared.fault.Part.TheVariants.{Book};
 ghost use Rattle.days.specs.Rules.{new_state};
 ghost use Rattle.days.specs.declared.command.Command.TheVariants.{Idle};
-ghost use Rattle.analysis.specs.Meant.{meant};
 ghost use Rattle.timeline.specs.Obeyed.{Obeyed};
-ghost use Rattle.timeline.specs.Timelines.{held_by, why};
+ghost use Rattle.timeline.specs.Timelines.{held_by};
 
 use crate::state::{LAST_TICK, Timeline};
 use crate::storage::JobStorage;
-use analysis::parts::Parts;
 use days::command::Command;
-use jobs::conditions::{Held, Unfinished};
-use jobs::seek::any;
-use model::arrivals::Arrivals;
+use jobs::questions::{any_held, any_unfinished};
 use model::fault::{Fault, NO_TASK, Part, Refusal};
-use model::order::Order;
-use model::sections::Sections;
+use model::parts::Parts;
 
 impl Timeline {
     // A day that has not begun.
@@ -30,12 +26,8 @@ impl Timeline {
     }
 
     // Obeys a command by the rules, or refuses it by the first rule that it breaks and leaves everything as it was.
-    pub fn obey<'t, R: Arrivals, O: Order, S: Sections>(
-        &mut self,
-        parts: Parts<'t, R, O, S>,
-        command: Command,
-    ) -> Result<(), Fault>
-        ensures { Obeyed (meant R.Arrivals.meaning O.Order.meaning S.Sections.meaning parts.entry) command (held_by self.entry.now) (held_by self.exit.now) (why result) }
+    pub fn obey<P: Parts>(&mut self, parts: &P, command: Command) -> Result<(), Fault>
+        ensures { Obeyed (P.meaning parts.now) command (held_by self.entry.now) (held_by self.exit.now) (result_err result) }
     {
         match command {
             Command::Release(task) => self.release(parts, task),
@@ -46,7 +38,7 @@ impl Timeline {
 
     // Idling asks nothing of the parts.
     fn idle(&mut self, ticks: u16) -> Result<(), Fault>
-        ensures { (m : Meanings) → Obeyed m (Idle ticks) (held_by self.entry.now) (held_by self.exit.now) (why result) }
+        ensures { (m : Meanings) → Obeyed m (Idle ticks) (held_by self.entry.now) (held_by self.exit.now) (result_err result) }
     {
         if ticks == 0 {
             return Err(refusal(Refusal::Unread, NO_TASK));
@@ -56,10 +48,10 @@ impl Timeline {
             return Err(refusal(Refusal::Full, NO_TASK));
         }
         let jobs = self.jobs.as_slice();
-        if any(jobs, &Held) {
+        if any_held(jobs) {
             return Err(refusal(Refusal::Held, NO_TASK));
         }
-        if any(jobs, &Unfinished) {
+        if any_unfinished(jobs) {
             return Err(refusal(Refusal::Behind, NO_TASK));
         }
         self.now = end;

@@ -1,35 +1,28 @@
 // Whether a job may be served: who has to be served before it, and what its sections allow.
 ghost use Rattle.std.specs.Prelude.{◌≡◌, ◌≤◌};
 ghost use Rattle.days.specs.Jobs.{allowed};
-ghost use Rattle.analysis.specs.Meant.{meant};
 ghost use Rattle.timeline.specs.Obeyed.{rival};
 ghost use Rattle.timeline.specs.Past.{latest};
 
-use analysis::parts::Parts;
 use days::command::Mark;
 use days::job::Job;
-use jobs::conditions::{Condition, Held, MoreUrgent};
-use jobs::seek::any;
-use model::arrivals::Arrivals;
+use jobs::predicates::is_held;
+use jobs::questions::{any_held, any_more_urgent};
 use model::fault::Refusal;
-use model::order::Order;
+use model::parts::Parts;
 use model::sections::Sections;
 
 // Why another job has to be served first: while one is held only that one is served, and else the most urgent.
-pub(crate) fn rival<'t, R: Arrivals, O: Order, S: Sections>(
-    jobs: &[Job],
-    parts: Parts<'t, R, O, S>,
-    job: Job,
-) -> Option<Refusal>
-    ensures { result ≡ rival (meant R.Arrivals.meaning O.Order.meaning S.Sections.meaning parts.entry) jobs.now job }
+pub(crate) fn rival<P: Parts>(jobs: &[Job], parts: &P, job: &Job) -> Option<Refusal>
+    ensures { result ≡ rival (P.meaning parts.now) jobs.now job.now }
 {
-    if any(jobs, &Held) {
-        if Held.holds(&job) {
+    if any_held(jobs) {
+        if is_held(job) {
             None
         } else {
             Some(Refusal::Held)
         }
-    } else if any(jobs, &MoreUrgent { parts, job }) {
+    } else if any_more_urgent(parts, jobs, job) {
         Some(Refusal::Behind)
     } else {
         None
@@ -37,25 +30,16 @@ pub(crate) fn rival<'t, R: Arrivals, O: Order, S: Sections>(
 }
 
 // Whether the sections allow the mark after one more tick of the job.
-pub(crate) fn is_allowed<'t, R: Arrivals, O: Order, S: Sections>(
-    parts: Parts<'t, R, O, S>,
-    mark: Mark,
-    job: &Job,
-) -> bool
+pub(crate) fn is_allowed<P: Parts>(parts: &P, mark: Mark, job: &Job) -> bool
     requires { latest job.now ≤ 1000000 }
-    ensures { result ≡ allowed (meant R.Arrivals.meaning O.Order.meaning S.Sections.meaning parts.entry).sections mark job.now }
+    ensures { result ≡ allowed (P.meaning parts.now).sections mark job.now }
 {
+    let sections = parts.sections();
     let received = job.received + 1;
     let since = job.since + 1;
     match mark {
-        Mark::Hold => parts
-            .sections
-            .may_hold(job.task, received, since, job.openings),
-        Mark::Open => parts
-            .sections
-            .may_open(job.task, received, since, job.openings),
-        Mark::Done => parts
-            .sections
-            .may_finish(job.task, received, since, job.openings),
+        Mark::Hold => sections.may_hold(job.task, received, since, job.openings),
+        Mark::Open => sections.may_open(job.task, received, since, job.openings),
+        Mark::Done => sections.may_finish(job.task, received, since, job.openings),
     }
 }

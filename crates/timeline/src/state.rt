@@ -1,6 +1,5 @@
 // The time and the jobs of a day.
-ghost use Rattle.std.specs.Prelude.{ℕ, ◌<◌, ◌≤◌, vec_len, vec_capacity, slice_index_or};
-ghost use Rattle.days.specs.declared.job.Job.{Job as TheJob};
+ghost use Rattle.std.specs.Prelude.{◌≤◌, All, vec_len, vec_capacity};
 ghost use Rattle.timeline.specs.Past.{latest};
 
 use days::job::Job;
@@ -17,5 +16,5 @@ pub struct Timeline {
     ghost few: { vec_len jobs ≤ 512 },
     ghost reserved: { 512 ≤ vec_capacity jobs },
     // nothing in a job counts more ticks than have passed
-    ghost past: { (n : ℕ) (d : TheJob) → n < vec_len jobs → latest (slice_index_or jobs.items n d) ≤ now },
+    ghost past: { All (λ j. latest j ≤ now) jobs.items },
 }

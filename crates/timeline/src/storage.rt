@@ -1,5 +1,5 @@
 // The memory for the jobs of a day, reserved before the day begins.
-ghost use Rattle.std.specs.Prelude.{◌≡◌, ◌≤◌, [], IfOk, vec_len, vec_capacity};
+ghost use Rattle.std.specs.Prelude.{◌≡◌, ◌≤◌, [], IfOk, vec_capacity};
 
 use days::job::Job;
 use std::alloc::{AllocError, Global};
@@ -11,7 +11,7 @@ pub const MOST_JOBS: usize = 512;
 #[derive(Drop)]
 pub struct JobStorage {
     pub(crate) jobs: Vec<Job>,
-    ghost empty: { vec_len jobs ≡ 0 },
+    ghost empty: { jobs.items ≡ [] },
     ghost reserved: { 512 ≤ vec_capacity jobs },
 }
 

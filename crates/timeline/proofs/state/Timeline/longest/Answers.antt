@@ -1,12 +1,10 @@
-use Rattle.std.proofs.Common.{vec_items, sym, ap, ◌∙◌}
-use Rattle.days.specs.Lists.{greatest_of}
-use Rattle.days.specs.Promise.{time}
-use Rattle.days.specs.Views.{shown}
-use Rattle.days.proofs.MapLaws.{greatest_of_map}
+use Rattle.std.proofs.Common.{max, vec_items, unwrap_or, ap, ◌∙◌}
+use Rattle.std.specs.List.{reduce}
+use Rattle.timeline.proofs.Longest.{times, greatest_time}
 use Rattle.timeline.proofs.state.Timeline.longest.Goals as goal
 
 pub returns : goal.returns
 returns c =
-    c.longest_time.ensures
-    ∙ ap (greatest_of (λ j. time c.args.task (shown j))) c.as_slice.ensures.value
-    ∙ sym (greatest_of_map shown (time c.args.task) (vec_items c.args.self.now.jobs))
+    c.unwrap_or.ensures
+    ∙ ap (λ found. unwrap_or found 0) (c.longest_time.ensures ∙ ap (λ jobs. reduce max (times c.args.task jobs)) c.as_slice.ensures.value)
+    ∙ greatest_time c.args.task (vec_items c.args.self.now.jobs)
