@@ -49,7 +49,7 @@ pub made_lawful : {X : Type 0} (shape : X → Shape) (refused : X → Option Ref
 made_lawful shape refused lawful rows none = shaped_lawful shape rows (λ k row at. lawful row (making_accepted refused Sections rows none k row at))
 
 -- a task that opens at every tick, of a cost that is not refused
-open_shape_lawful : (cost : ℕ) → outside 1 most_cost cost ≡ None → LawfulShape (open_shape cost)
+pub open_shape_lawful : (cost : ℕ) → outside 1 most_cost cost ≡ None → LawfulShape (open_shape cost)
 open_shape_lawful cost none = let limits = inside 1 most_cost cost none in grind (arith, nat_tests)
 
 -- Open sections keep the laws.
@@ -57,7 +57,7 @@ pub open_lawful : (cs : List ℕ) → costs_fault cs ≡ None → LawfulSections
 open_lawful = made_lawful open_shape (outside 1 most_cost) open_shape_lawful
 
 -- a task that never opens, of a cost that is not refused
-shut_shape_lawful : (cost : ℕ) → outside 1 most_cost cost ≡ None → LawfulShape (shut_shape cost)
+pub shut_shape_lawful : (cost : ℕ) → outside 1 most_cost cost ≡ None → LawfulShape (shut_shape cost)
 shut_shape_lawful cost none = let limits = inside 1 most_cost cost none in grind (arith, nat_tests)
 
 -- Shut sections keep the laws.
@@ -65,7 +65,7 @@ pub shut_lawful : (cs : List ℕ) → costs_fault cs ≡ None → LawfulSections
 shut_lawful = made_lawful shut_shape (outside 1 most_cost) shut_shape_lawful
 
 -- a task with floating sections that is not refused
-floating_shape_lawful : (task : FloatingTask) → floating_refused task ≡ None → LawfulShape (floating_shape task)
+pub floating_shape_lawful : (task : FloatingTask) → floating_refused task ≡ None → LawfulShape (floating_shape task)
 floating_shape_lawful task none =
     let (none-cost, none-longest) = neither (outside 1 most_cost task.cost) _ none in
     let cost-limits = inside 1 most_cost task.cost none-cost in
@@ -133,7 +133,7 @@ used_lawful (zero ∷ xs) first small = absurd (omega arith)
 used_lawful (suc x ∷ xs) first small = segments_lawful (suc x) (used xs) first (final_positive (suc x) xs first) small
 
 -- the segments of a row that is not refused
-points_shape_lawful : (row : List ℕ) → points_refused row ≡ None → LawfulShape (points_shape (used row))
+pub points_shape_lawful : (row : List ℕ) → points_refused row ≡ None → LawfulShape (points_shape (used row))
 points_shape_lawful row none =
     let (first, behind) = neither (outside 1 most_cost (get_or row 0 0)) _ none in
     let (_, in_all) = neither (segments_refused row) _ behind in

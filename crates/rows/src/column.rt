@@ -5,8 +5,5 @@ ghost use Rattle.std.specs.Prelude.{◌≡◌, slice_index};
 pub fn entry(column: &[u32], task: u8) -> u32
     ensures { result ≡ slice_index column.now task }
 {
-    match column.get(usize::from(task)) {
-        Some(number) => *number,
-        None => 0,
-    }
+    column.get(usize::from(task)).copied().unwrap_or(0)
 }

@@ -1,12 +1,44 @@
-// One row for each of up to sixteen tasks.
-ghost use Rattle.std.specs.Prelude.{◌≡◌, ◌≤◌, length};
+// One row for each of up to sixteen tasks, kept in place.
+ghost use Rattle.std.specs.Prelude.{◌≡◌, length};
+ghost use Rattle.std.specs.List.{slice_get};
+ghost use Rattle.model.specs.Rows.{making_fault};
+ghost use Rattle.rows.specs.Kept.{kept};
+ghost use Rattle.rows.specs.Making.{MakesUnlessFault};
 
-pub mod methods;
+use crate::rule::{MOST_TASKS, RowRule, making_fault};
+use arrayvec::ArrayVec;
+use model::fault::{Fault, Part};
 
 #[derive(Drop)]
 pub struct PerTask<T> {
-    rows: [T; 16],
-    tasks: u8,
-    ghost few: { tasks ≤ 16 },
-    ghost full: { length rows ≡ 16 },
+    rows: ArrayVec<T, MOST_TASKS>,
+}
+
+impl<T: Copy + Default> PerTask<T> {
+    // The rows, if none is at fault.
+    pub fn checked<C: RowRule<T>>(rule: &C, part: Part, rows: &[T]) -> Result<PerTask<T>, Fault>
+        ensures { MakesUnlessFault result (making_fault (C.RowRule.refuses rule.now) part rows.now) (λ s. kept s ≡ rows.now) }
+    {
+        if let Some(fault) = making_fault(rule, part, rows) {
+            return Err(fault);
+        }
+        // Rows without fault are not too many.
+        let Ok(rows) = ArrayVec::try_from(rows) else {
+            unreachable!()
+        };
+        Ok(PerTask { rows })
+    }
+
+    pub fn tasks(&self) -> u8
+        ensures { result ≡ length (kept self.now) }
+    {
+        self.rows.len() as u8
+    }
+
+    // The row of a task, if it has one.
+    pub fn get(&self, task: u8) -> Option<T>
+        ensures { result ≡ slice_get (kept self.now) task }
+    {
+        self.rows.get(usize::from(task)).copied()
+    }
 }

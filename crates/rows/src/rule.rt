@@ -27,7 +27,7 @@ impl RowRule<u32> for Limits {
     ghost refuses = { λ s x. outside s.low s.high x };
 
     fn refused(&self, row: &u32) -> Option<Refusal> {
-        if self.low <= *row && *row <= self.high {
+        if (self.low..=self.high).contains(row) {
             None
         } else {
             Some(Refusal::Range)
@@ -53,16 +53,15 @@ fn first_fault<T, C: RowRule<T>>(rule: &C, part: Part, rows: &[T]) -> Option<Fau
     requires { length rows.now ≤ 16 }
     ensures { result ≡ rows_fault (C.RowRule.refuses rule.now) part 0 rows.now }
 {
-    let mut task = 0u8;
-    for row in rows {
+    for (task, row) in rows.iter().enumerate() {
         if let Some(refusal) = rule.refused(row) {
+            let task = task as u8;
             return Some(Fault {
                 refusal,
                 part,
                 task,
             });
         }
-        task += 1;
     }
     None
 }

@@ -5,5 +5,7 @@ mod costs;
 pub mod floating_sections;
 pub mod open_sections;
 pub mod point_sections;
+mod row_shape;
 mod segments;
+mod shaped_sections;
 pub mod shut_sections;

@@ -1,25 +1,32 @@
 // Point sections, preemption at fixed points: a job is the given segments one after the other, and opens between them.
-ghost use Rattle.std.specs.Prelude.{◌≡◌, Some, None, MatchResult};
-ghost use Rattle.kinds.specs.SectionKinds.{points_sections, points_refused, segments_refused, number_behind, points_fault};
-ghost use Rattle.kinds.proofs.SectionLaws.{points_lawful};
-ghost use Rattle.rows.specs.Kept.{kept};
-ghost use Rattle.kinds.specs.Unfaulted.{Unfaulted, no_fault};
+ghost use Rattle.std.specs.Prelude.{◌≡◌};
+ghost use Rattle.kinds.specs.Numbers.{used};
+ghost use Rattle.kinds.specs.SectionKinds.{points_shape, points_refused, segments_refused, number_behind};
+ghost use Rattle.kinds.proofs.SectionLaws.{points_shape_lawful};
 
 use crate::costs::MOST_COST;
+use crate::row_shape::RowShape;
 use crate::segments;
+use crate::shaped_sections::ShapedSections;
 use kinds::numbers::used;
-use model::fault::{Fault, Part, Refusal};
-use model::sections::Sections;
-use rows::per_task::PerTask;
-use rows::rule::RowRule;
+use model::fault::Refusal;
 
-// Segments with 0 behind the last, each between its limits, and their sum too.
-struct PointsRow;
+// A part that is made of up to eight segments for each task, with 0 behind the last.
+pub type PointSections = ShapedSections<Points>;
 
-impl RowRule<[u32; 8]> for PointsRow {
-    ghost refuses = { λ s row. points_refused row };
+pub struct Points;
 
-    fn refused(&self, row: &[u32; 8]) -> Option<Refusal> {
+impl RowShape for Points {
+    type Row = [u32; 8];
+
+    ghost refuses = { points_refused };
+
+    ghost shape = { λ row. points_shape (used row) };
+
+    ghost lawful = { points_shape_lawful };
+
+    // Segments with 0 behind the last, each between its limits, and their sum too.
+    fn refused(row: &[u32; 8]) -> Option<Refusal> {
         if row[0] < 1 || row[0] > MOST_COST {
             return Some(Refusal::Range);
         }
@@ -31,6 +38,30 @@ impl RowRule<[u32; 8]> for PointsRow {
             return Some(Refusal::Range);
         }
         None
+    }
+
+    fn cost(row: &[u32; 8]) -> u32 {
+        segments::total(used(row)) as u32
+    }
+
+    fn longest(row: &[u32; 8]) -> u32 {
+        segments::longest(used(row))
+    }
+
+    fn tail(row: &[u32; 8]) -> u32 {
+        segments::last(used(row))
+    }
+
+    fn may_hold(row: &[u32; 8], received: u32, since: u32, openings: u32) -> bool {
+        segments::may_hold(used(row), received, since, openings)
+    }
+
+    fn may_open(row: &[u32; 8], received: u32, since: u32, openings: u32) -> bool {
+        segments::may_open(used(row), received, since, openings)
+    }
+
+    fn may_finish(row: &[u32; 8], received: u32, since: u32, openings: u32) -> bool {
+        segments::may_finish(used(row), received, since, openings)
     }
 }
 
@@ -61,75 +92,4 @@ fn refused_behind(numbers: &[u32]) -> Option<Refusal>
         }
     }
     None
-}
-
-#[derive(Drop)]
-pub struct PointSections {
-    rows: PerTask<[u32; 8]>,
-    // a cost is at most 100,000 ticks
-    ghost faultless: { Unfaulted (points_fault (kept rows)) },
-}
-
-impl PointSections {
-    // One row for each task: up to eight segments, with 0 behind the last.
-    pub fn new(rows: &[[u32; 8]]) -> Result<PointSections, Fault>
-        ensures { MatchResult result
-            (λ s. (kept s.rows ≡ rows.now) × (points_fault rows.now ≡ None))
-            (λ f. points_fault rows.now ≡ Some f) }
-    {
-        let rows = PerTask::checked(&PointsRow, Part::Sections, rows)?;
-        Ok(PointSections { rows })
-    }
-}
-
-impl Sections for PointSections {
-    ghost meaning = { λ s. points_sections (kept s.rows) };
-
-    ghost lawful = { λ s. points_lawful (kept s.rows) (no_fault (points_fault (kept s.rows)) s.faultless) };
-
-    fn tasks(&self) -> u8 {
-        self.rows.tasks()
-    }
-
-    fn cost(&self, task: u8) -> u32 {
-        match self.rows.get(task) {
-            Some(row) => segments::total(used(&row)) as u32,
-            None => 0,
-        }
-    }
-
-    fn longest(&self, task: u8) -> u32 {
-        match self.rows.get(task) {
-            Some(row) => segments::longest(used(&row)),
-            None => 0,
-        }
-    }
-
-    fn tail(&self, task: u8) -> u32 {
-        match self.rows.get(task) {
-            Some(row) => segments::last(used(&row)),
-            None => 0,
-        }
-    }
-
-    fn may_hold(&self, task: u8, received: u32, since: u32, openings: u32) -> bool {
-        match self.rows.get(task) {
-            Some(row) => segments::may_hold(used(&row), received, since, openings),
-            None => false,
-        }
-    }
-
-    fn may_open(&self, task: u8, received: u32, since: u32, openings: u32) -> bool {
-        match self.rows.get(task) {
-            Some(row) => segments::may_open(used(&row), received, since, openings),
-            None => false,
-        }
-    }
-
-    fn may_finish(&self, task: u8, received: u32, since: u32, openings: u32) -> bool {
-        match self.rows.get(task) {
-            Some(row) => segments::may_finish(used(&row), received, since, openings),
-            None => false,
-        }
-    }
 }

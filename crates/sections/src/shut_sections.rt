@@ -1,71 +1,55 @@
 // Shut sections, not preemptive: a job runs from its start to its end.
-ghost use Rattle.std.specs.Prelude.{◌≡◌, Some, None, MatchResult};
-ghost use Rattle.kinds.specs.SectionKinds.{shut_sections, costs_fault};
-ghost use Rattle.kinds.proofs.SectionLaws.{shut_lawful};
-ghost use Rattle.rows.specs.Kept.{kept};
-ghost use Rattle.kinds.specs.Unfaulted.{Unfaulted, no_fault};
+ghost use Rattle.kinds.specs.SectionKinds.{shut_shape};
+ghost use Rattle.kinds.proofs.SectionLaws.{shut_shape_lawful};
+ghost use Rattle.model.specs.Rows.{outside};
+ghost use Rattle.model.specs.Sections.{most_cost};
 
 use crate::costs::COSTS;
-use model::fault::{Fault, Part};
-use model::sections::Sections;
-use rows::per_task::PerTask;
+use crate::row_shape::RowShape;
+use crate::shaped_sections::ShapedSections;
+use model::fault::Refusal;
+use rows::rule::RowRule;
 
-#[derive(Drop)]
-pub struct ShutSections {
-    rows: PerTask<u32>,
-    // a job of no ticks would have no tail
-    ghost faultless: { Unfaulted (costs_fault (kept rows)) },
-}
+// A part that is made of one cost for each task.
+pub type ShutSections = ShapedSections<Shut>;
 
-impl ShutSections {
-    // One cost for each task.
-    pub fn new(costs: &[u32]) -> Result<ShutSections, Fault>
-        ensures { MatchResult result
-            (λ s. (kept s.rows ≡ costs.now) × (costs_fault costs.now ≡ None))
-            (λ f. costs_fault costs.now ≡ Some f) }
-    {
-        let rows = PerTask::checked(&COSTS, Part::Sections, costs)?;
-        Ok(ShutSections { rows })
-    }
-}
+pub struct Shut;
 
-impl Sections for ShutSections {
-    ghost meaning = { λ s. shut_sections (kept s.rows) };
+impl RowShape for Shut {
+    type Row = u32;
 
-    ghost lawful = { λ s. shut_lawful (kept s.rows) (no_fault (costs_fault (kept s.rows)) s.faultless) };
+    ghost refuses = { outside 1 most_cost };
 
-    fn tasks(&self) -> u8 {
-        self.rows.tasks()
+    ghost shape = { shut_shape };
+
+    ghost lawful = { shut_shape_lawful };
+
+    fn refused(cost: &u32) -> Option<Refusal> {
+        COSTS.refused(cost)
     }
 
-    fn cost(&self, task: u8) -> u32 {
-        self.rows.get(task).unwrap_or(0)
+    fn cost(cost: &u32) -> u32 {
+        *cost
     }
 
     // Nothing interrupts a job, so that all of it is one stretch, and its own end.
-    fn longest(&self, task: u8) -> u32 {
-        self.rows.get(task).unwrap_or(0)
+    fn longest(cost: &u32) -> u32 {
+        *cost
     }
 
-    fn tail(&self, task: u8) -> u32 {
-        self.rows.get(task).unwrap_or(0)
+    fn tail(cost: &u32) -> u32 {
+        *cost
     }
 
-    fn may_hold(&self, task: u8, received: u32, since: u32, _openings: u32) -> bool {
-        match self.rows.get(task) {
-            Some(cost) => received < cost && since < cost,
-            None => false,
-        }
+    fn may_hold(cost: &u32, received: u32, since: u32, _openings: u32) -> bool {
+        received < *cost && since < *cost
     }
 
-    fn may_open(&self, _task: u8, _received: u32, _since: u32, _openings: u32) -> bool {
+    fn may_open(_cost: &u32, _received: u32, _since: u32, _openings: u32) -> bool {
         false
     }
 
-    fn may_finish(&self, task: u8, received: u32, _since: u32, _openings: u32) -> bool {
-        match self.rows.get(task) {
-            Some(cost) => received <= cost,
-            None => false,
-        }
+    fn may_finish(cost: &u32, received: u32, _since: u32, _openings: u32) -> bool {
+        received <= *cost
     }
 }
