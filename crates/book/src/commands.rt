@@ -1,11 +1,11 @@
 // What a book answers: to a command, and to the questions about the time and about a job.
 ghost use Rattle.std.specs.Prelude.{◌≡◌, List, Some, None, sum_by};
+ghost use Rattle.std.specs.Result.{result_err};
 ghost use Rattle.model.specs.Faults.{fault, no_task};
-ghost use Rattle.model.specs.declared.fault.Part.TheVariants.{Book};
+ghost use Rattle.model.specs.declared.fault.Part.TheVariants as part;
 ghost use Rattle.days.specs.Days.{Event, event_ticks, Led, Followed};
 ghost use Rattle.days.specs.Rules.{answer};
 ghost use Rattle.analysis.specs.Judgement.{verdict_of};
-ghost use Rattle.timeline.specs.Timelines.{why};
 ghost use Rattle.book.specs.Books.{parts_of, state_of};
 ghost use Rattle.book.specs.JobViews.{nth_job};
 
@@ -20,7 +20,7 @@ impl<P: Parts> Book<P> {
     // lead to the book after.
     pub fn obey(&mut self, command: Command) -> Result<(), Fault>
         ensures table { self.new.table ≡ self.old.table }
-        ensures followed { Followed (verdict_of self.old.table) (P.meaning (parts_of self.old)) (state_of self.old) (Some command) (why result) (state_of self.new) }
+        ensures followed { Followed (verdict_of self.old.table) (P.meaning (parts_of self.old)) (state_of self.old) (Some command) (result_err result) (state_of self.new) }
     {
         match self.table.verdict() {
             Some(_) => Err(refusal(Refusal::Unfit)),
@@ -58,7 +58,7 @@ impl<P> Book<P> {
 
 // A refusal of the book that is about no task.
 fn refusal(refusal: Refusal) -> Fault
-    ensures { result ≡ fault refusal Book no_task }
+    ensures { result ≡ fault refusal part.Book no_task }
 {
     Fault {
         refusal,

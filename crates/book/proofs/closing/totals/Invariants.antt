@@ -8,8 +8,7 @@ use Rattle.book.proofs.closing.totals.Given as goal
 abbrev pub invariant-loop-task : goal.invariant-loop-task
 invariant-loop-task l =
     let day = viewed (held_by l.timeline) in
-    let so_far = record { tasks = l.tasks } in
     record {
-      finished_so : Filled (finished day) l.task (finished_in so_far);
-      longest_so : Filled (longest_time day) l.task (longest_in so_far);
+      finished_so : Filled (finished day) l.task (finished_in record { tasks = l.tasks });
+      longest_so : Filled (longest_time day) l.task (longest_in record { tasks = l.tasks });
     }
