@@ -28,3 +28,7 @@ pub followed_obeyed : (verdict : Option Fault) (m : Parts) (s : State) (c : Comm
 followed_obeyed verdict m s c why later accepted obeyed =
     let answered : why ≡ answer verdict m s (Some c) = obeyed.answer ∙ rw accepted in
     followed verdict m s (Some c) why later answered (obeyed.left ∙ ap (λ found. if_some found (after s c) (λ _. s)) answered)
+
+-- bytes that are no command
+pub followed_unread : (verdict : Option Fault) (m : Parts) (s : State) (f : Fault) → Some f ≡ answer verdict m s None → Followed verdict m s None (Some f) s
+followed_unread verdict m s f answered = followed verdict m s None (Some f) s answered (rw (sym answered))

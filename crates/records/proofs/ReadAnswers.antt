@@ -3,7 +3,9 @@ use Rattle.std.proofs.Common.{◌≡◌, ℕ, ◌<◌, ◌≤◌, false, cond, I
 use Rattle.std.proofs.lemmas.Bool.{cond_both}
 use Rattle.model.specs.Analysis.{Parts}
 use Rattle.model.specs.declared.fault.Fault.{Fault}
+use Rattle.days.specs.Days.{Followed}
 use Rattle.days.specs.Rules.{State, no_command, unfit, answer}
+use Rattle.book.proofs.Following.{followed}
 use Rattle.days.specs.declared.command.Command.{Command}
 use Rattle.records.specs.Placed.{reads_on, next_place, read_answer}
 
@@ -33,3 +35,7 @@ module _ (verdict : Option Fault) (m : Parts) (s : State) where
 pub further_next : (place end : ℕ) (f : Fault) (next : ℕ) → place < next → next ≤ end → IfSome (cond (reads_on f.refusal) (Some next) None) (λ n. (place < n) × (n ≤ end))
 further_next place end f next further within =
     cond_both (reads_on f.refusal) (Some next) None (λ o. IfSome o (λ n. (place < n) × (n ≤ end))) (λ _. (further, within)) (λ _. tt)
+
+-- bytes that are no command leave the book as it was
+pub unread_followed : (verdict : Option Fault) (m : Parts) (s : State) (f : Fault) → Some f ≡ answer verdict m s None → Followed verdict m s None (Some f) s
+unread_followed verdict m s f answered = followed verdict m s None (Some f) s answered (rw (sym answered))

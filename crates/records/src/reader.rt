@@ -15,11 +15,7 @@ use model::parts::Parts;
 
 // Obeys the command at a place of the record and gives the next place. Bytes that are no command, and places past the
 // end, are refused as unread.
-pub fn obey<P: Parts>(
-    book: &mut Book<P>,
-    bytes: &[u8],
-    place: usize,
-) -> Result<usize, RecordFault>
+pub fn obey<P: Parts>(book: &mut Book<P>, bytes: &[u8], place: usize) -> Result<usize, RecordFault>
     ensures table { book.new.table ≡ book.old.table }
     ensures answer { result ≡ read_answer (answer (verdict_of book.old.table) (P.meaning (parts_of book.old)) (state_of book.old) (decoded (drop place bytes.now))) (decoded (drop place bytes.now)) place }
     ensures followed { Followed (verdict_of book.old.table) (P.meaning (parts_of book.old)) (state_of book.old) (decoded (drop place bytes.now)) (book_answer result) (state_of book.new) }
@@ -29,10 +25,10 @@ pub fn obey<P: Parts>(
         return Err(RecordFault::from((place, None, book.unread())));
     };
     let next = bytes.len() - rest.len();
-    match book.obey(command) {
-        Ok(()) => Ok(next),
-        Err(fault) => Err(RecordFault::from((place, next_after(fault, next), fault))),
-    }
+    let answer = book.obey(command);
+    answer
+        .map(|()| next)
+        .map_err(|fault| RecordFault::from((place, next_after(fault, next), fault)))
 }
 
 // The bytes from a place on; none past the end.
