@@ -1,3 +1,0 @@
-pub mod Fronts
-pub mod Lying
-pub mod ReadAnswers
