@@ -26,9 +26,11 @@ pub fn obey<P: Parts>(book: &mut Book<P>, bytes: &[u8], place: usize) -> Result<
     };
     let next = bytes.len() - rest.len();
     let answer = book.obey(command);
-    answer
-        .map(|()| next)
-        .map_err(|fault| RecordFault::from((place, next_after(fault, next), fault)))
+    answer.map(|()| next).map_err(|fault| RecordFault::from((
+        place,
+        next_after(fault, next),
+        fault,
+    )))
 }
 
 // The bytes from a place on; none past the end.
