@@ -1,4 +1,4 @@
-use Rattle.std.proofs.Common.{◌+◌, ◌<◌, sym, refl, arith, ap, ◌∙◌, set, vec_items}
+use Rattle.std.proofs.Common.{◌+◌, ◌<◌, refl, arith, ap, ◌∙◌, set, vec_items}
 use Rattle.model.specs.Analysis.{tasks}
 use Rattle.timeline.specs.Timelines.{held_by}
 use Rattle.timeline.proofs.ServeRules.{serve_absent, serve_answer, serve_changes}
@@ -8,7 +8,7 @@ pub returns-in_default : goal.returns-in_default
 returns-in_default g c =
     let m = g.P.Parts.meaning c.args.parts.now in
     let known : c.args.task < tasks m = omega (arith, c.if-task-tasks.false, c.tasks.ensures, ap (λ a. a.tasks) c.arrivals.ensures) in
-    let none = rw c.as_slice.ensures.value at (sym c.in_default.ensures) in
+    let none = rw c.as_slice.ensures.value at c.in_default.ensures in
     let absent = serve_absent m (held_by c.args.self.now) c.args.mark c.args.task known c.if-self-ge-LAST_TICK.false none in
     record { answer = rw (c.refusal-in_default.ensures) absent; left = refl }
 
@@ -16,7 +16,7 @@ pub returns-in-Some-obstacle : goal.returns-in-Some-obstacle
 returns-in-Some-obstacle g c =
     let m = g.P.Parts.meaning c.args.parts.now in
     let known : c.args.task < tasks m = omega (arith, c.if-task-tasks.false, c.tasks.ensures, ap (λ a. a.tasks) c.arrivals.ensures) in
-    let place = rw c.as_slice.ensures.value at (sym c.in-Some.ensures) in
+    let place = rw c.as_slice.ensures.value at c.in-Some.ensures in
     let answer = serve_answer m (held_by c.args.self.now) c.args.mark c.args.task known c.if-self-ge-LAST_TICK.false c.in-Some.place c.index.result.now place c.index.ensures in
     record { answer = rw (c.refusal-in-Some-obstacle.ensures) (rw (← c.in-Some-obstacle.ensures) at answer); left = refl }
 
@@ -24,7 +24,7 @@ pub returns : goal.returns
 returns g c =
     let m = g.P.Parts.meaning c.args.parts.now in
     let known : c.args.task < tasks m = omega (arith, c.if-task-tasks.false, c.tasks.ensures, ap (λ a. a.tasks) c.arrivals.ensures) in
-    let place = rw c.as_slice.ensures.value at (sym c.in-Some.ensures) in
+    let place = rw c.as_slice.ensures.value at c.in-Some.ensures in
     let answer = serve_answer m (held_by c.args.self.now) c.args.mark c.args.task known c.if-self-ge-LAST_TICK.false c.in-Some.place c.index.result.now place c.index.ensures in
     record {
       answer = rw (← c.in_default-obstacle.ensures) at answer;
