@@ -14,13 +14,13 @@ span from to = min (to - from + 1) last_length
 
 module _ (m : Parts) (jobs : List Job) (k now : ℕ) where
   -- with one more release now, there are more releases of task k from a tick to now than its arrival curve allows
-  abbrev pub one_too_many : ℕ → Bool
-  one_too_many from = nat_lt (m.arrivals.count k (span from now)) (releases k from jobs + 1)
+  abbrev pub crowded_from : ℕ → Bool
+  crowded_from tick = nat_lt (m.arrivals.count k (span tick now)) (releases k tick jobs + 1)
 
-  -- the tick is that of some release of the task
-  abbrev pub one_too_many_behind : Bool
-  one_too_many_behind = list_any (λ j. of_task k j && one_too_many j.release) jobs
+  -- there are, from some release of the task
+  abbrev pub crowded_from_a_release : Bool
+  crowded_from_a_release = list_any (λ j. of_task k j && crowded_from j.release) jobs
 
-  -- the tick is that of some release of the task, or now
-  abbrev pub crowds : Bool
-  crowds = one_too_many_behind || one_too_many now
+  -- there are, from some release of the task or from now
+  abbrev pub crowded_now : Bool
+  crowded_now = crowded_from_a_release || crowded_from now

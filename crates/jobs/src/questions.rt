@@ -1,5 +1,5 @@
 // What is asked of a list of jobs.
-ghost use Rattle.std.specs.Prelude.{◌≡◌, count_by, position};
+ghost use Rattle.std.specs.Prelude.{◌≡◌, ◌≤◌, length, count_by, position};
 ghost use Rattle.std.specs.List.{list_any};
 ghost use Rattle.days.specs.Jobs.{held, unfinished, pending};
 ghost use Rattle.days.specs.Promise.{ended};
@@ -40,14 +40,16 @@ pub fn first_pending(jobs: &[Job], task: u8) -> Option<usize>
 
 // How many jobs of the task have ended.
 pub fn ended(jobs: &[Job], task: u8) -> usize
-    ensures { result ≡ count_by (λ j. ended task (shown j)) jobs.now }
+    ensures few { result ≤ length jobs.now }
+    ensures value { result ≡ count_by (λ j. ended task (shown j)) jobs.now }
 {
     jobs.iter().filter(|job| has_ended(job, task)).count()
 }
 
 // How many jobs of the task were released at `tick` or later.
 pub fn released_since(jobs: &[Job], task: u8, tick: u32) -> usize
-    ensures { result ≡ releases task tick jobs.now }
+    ensures few { result ≤ length jobs.now }
+    ensures value { result ≡ releases task tick jobs.now }
 {
     jobs.iter()
         .filter(|job| is_released_since(job, task, tick))

@@ -10,7 +10,7 @@ use Rattle.model.specs.Arrivals.{last_length}
 use Rattle.days.specs.Jobs.{of_task, new_job}
 use Rattle.days.specs.Rules.{releases, crowding}
 use Rattle.days.specs.declared.job.Job.{Job}
-use Rattle.jobs.specs.Crowds.{span, one_too_many, crowds}
+use Rattle.jobs.specs.Crowds.{span, crowded_from, crowded_now}
 
 -- two tests that agree on every element
 any_agree : {X : Type 0} (p q : X → Bool) (xs : List X) → ((n : ℕ) (d : X) → n < length xs → p (get_or xs n d) ≡ q (get_or xs n d)) → list_any p xs ≡ list_any q xs
@@ -24,7 +24,7 @@ module _ (m : Parts) (jobs : List Job) (k tick : ℕ) (short : tick < last_lengt
 
   -- a job from whose release to the tick there are too many releases, with one more at the tick
   abbrev crowding_more : Job → Bool
-  crowding_more j = of_task k j && one_too_many m jobs k tick j.release
+  crowding_more j = of_task k j && crowded_from m jobs k tick j.release
 
   -- one more release counts from every release up to it
   releases_more : (from : ℕ) → from ≤ tick → releases k from with_new ≡ releases k from jobs + 1
@@ -39,8 +39,8 @@ module _ (m : Parts) (jobs : List Job) (k tick : ℕ) (short : tick < last_lengt
       ap₂ (λ d n. of_task k j && ltb (m.arrivals.count k d) n) length (releases_more j.release early)
 
   -- a release at the tick crowds if it does so for some job before it, or for itself
-  pub crowds_more : All (λ j. j.release ≤ tick) jobs → list_any (crowding m tick k with_new) with_new ≡ crowds m jobs k tick
+  pub crowds_more : All (λ j. j.release ≤ tick) jobs → list_any (crowding m tick k with_new) with_new ≡ crowded_now m jobs k tick
   crowds_more past =
       list_any-append (crowding m tick k with_new) jobs (new_job k tick ∷ [])
       ∙ ap₂ (λ b c. b || c) (any_agree _ crowding_more jobs (λ n d within. crowds_alike (get_or jobs n d) (past n d within)))
-      (or-false _ ∙ crowds_alike (new_job k tick) (omega arith) ∙ ap (λ b. b && one_too_many m jobs k tick tick) (eq-eqb k k refl))
+      (or-false _ ∙ crowds_alike (new_job k tick) (omega arith) ∙ ap (λ b. b && crowded_from m jobs k tick tick) (eq-eqb k k refl))

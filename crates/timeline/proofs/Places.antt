@@ -54,9 +54,3 @@ module _ {X : Type 0} (p : X → Bool) where
 
   pub none_placed : (xs : List X) → position p xs ≡ None → list_any p xs ≡ false
   none_placed xs none = none_from xs 0 (sym (position_from-zero p xs) ∙ none)
-
-  -- where there is a first that passes, something passes
-  pub first_any : (xs : List X) (x : X) → find p xs ≡ Some x → list_any p xs ≡ true
-  first_any [] y found = absurd (let z : ◌≡◌ {A = ℕ} 0 1 = cc in omega arith)
-  first_any (x ∷ xs) y found =
-      ⊎_elim (λ so. rw so) (λ so. rw so (first_any xs y (rw so at found))) (cases_Bool (p x))

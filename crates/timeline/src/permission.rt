@@ -1,6 +1,7 @@
 // Whether a job may be served: who has to be served before it, and what its sections allow.
 ghost use Rattle.std.specs.Prelude.{◌≡◌, ◌≤◌};
 ghost use Rattle.days.specs.Jobs.{allowed};
+ghost use Rattle.days.specs.Rules.{last_tick};
 ghost use Rattle.timeline.specs.Obeyed.{rival};
 ghost use Rattle.timeline.specs.Past.{latest};
 
@@ -17,21 +18,15 @@ pub(crate) fn rival<P: Parts>(jobs: &[Job], parts: &P, job: &Job) -> Option<Refu
     ensures { result ≡ rival (P.meaning parts.now) jobs.now job.now }
 {
     if any_held(jobs) {
-        if is_held(job) {
-            None
-        } else {
-            Some(Refusal::Held)
-        }
-    } else if any_more_urgent(parts, jobs, job) {
-        Some(Refusal::Behind)
+        (!is_held(job)).then_some(Refusal::Held)
     } else {
-        None
+        any_more_urgent(parts, jobs, job).then_some(Refusal::Behind)
     }
 }
 
 // Whether the sections allow the mark after one more tick of the job.
 pub(crate) fn is_allowed<P: Parts>(parts: &P, mark: Mark, job: &Job) -> bool
-    requires { latest job.now ≤ 1000000 }
+    requires { latest job.now ≤ last_tick }
     ensures { result ≡ allowed (P.meaning parts.now).sections mark job.now }
 {
     let sections = parts.sections();

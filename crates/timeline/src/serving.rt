@@ -1,6 +1,7 @@
 // Serving a job for one tick.
 ghost use Rattle.std.specs.Prelude.{◌≡◌, ◌≤◌};
 ghost use Rattle.std.specs.Result.{result_err};
+ghost use Rattle.days.specs.Rules.{last_tick};
 ghost use Rattle.days.specs.declared.command.Command.TheVariants.{Serve};
 ghost use Rattle.timeline.specs.Obeyed.{Obeyed, obstacle};
 ghost use Rattle.timeline.specs.Past.{latest};
@@ -41,16 +42,12 @@ impl Timeline {
 
     // Why the job may not be served for one tick with the mark.
     fn obstacle<P: Parts>(&self, parts: &P, mark: Mark, job: &Job) -> Option<Refusal>
-        requires { latest job.now ≤ 1000000 }
+        requires { latest job.now ≤ last_tick }
         ensures { result ≡ obstacle (P.meaning parts.now) self.entry.now.jobs.items mark job.now }
     {
-        if let Some(reason) = rival(self.jobs.as_slice(), parts, job) {
-            return Some(reason);
-        }
-        if is_allowed(parts, mark, job) {
-            None
-        } else {
-            Some(Refusal::Section)
-        }
+        rival(self.jobs.as_slice(), parts, job).or_else(|| {
+            let forbidden = !is_allowed(parts, mark, job);
+            forbidden.then_some(Refusal::Section)
+        })
     }
 }
