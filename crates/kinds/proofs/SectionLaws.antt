@@ -8,7 +8,7 @@ use Rattle.model.specs.Sections.{LawfulSections, most_cost}
 use Rattle.model.specs.declared.fault.Part.TheVariants.{Sections}
 use Rattle.model.specs.declared.fault.Refusal.{Refusal}
 use Rattle.kinds.specs.Numbers.{used}
-use Rattle.kinds.specs.SectionKinds.{Shape, shaped, open_shape, shut_shape, floating_shape, points_shape, largest, final, open_sections, shut_sections, floating_sections, points_sections, costs_fault, floating_refused, floating_fault, segments_refused, points_refused, points_fault}
+use Rattle.kinds.specs.SectionKinds.{Shape, shaped, sections_fault, open_shape, shut_shape, floating_shape, points_shape, largest, final, open_sections, shut_sections, floating_sections, points_sections, costs_fault, floating_refused, floating_fault, segments_refused, points_refused, points_fault}
 use Rattle.kinds.specs.declared.FloatingTask.{FloatingTask}
 use Rattle.kinds.proofs.RowLaws.{row_of, for_absent, making_accepted, inside, neither}
 
@@ -45,7 +45,7 @@ shaped_lawful shape rows lawful = record {
 }
 
 -- Sections whose making refuses every row without a lawful shape keep the laws.
-pub made_lawful : {X : Type 0} (shape : X → Shape) (refused : X → Option Refusal) → ((row : X) → refused row ≡ None → LawfulShape (shape row)) → (rows : List X) → making_fault refused Sections rows ≡ None → LawfulSections (shaped shape rows)
+pub made_lawful : {X : Type 0} (shape : X → Shape) (refused : X → Option Refusal) → ((row : X) → refused row ≡ None → LawfulShape (shape row)) → (rows : List X) → sections_fault refused rows ≡ None → LawfulSections (shaped shape rows)
 made_lawful shape refused lawful rows none = shaped_lawful shape rows (λ k row at. lawful row (making_accepted refused Sections rows none k row at))
 
 -- a task that opens at every tick, of a cost that is not refused

@@ -32,6 +32,10 @@ shaped shape rows = record {
   may_finish = λ k r s p. for_task rows k false (λ row. (shape row).done r s p);
 }
 
+-- why such a part is not made of these rows, given what is refused about one
+abbrev pub sections_fault : {X : Type 0} → (X → Option Refusal) → List X → Option Fault
+sections_fault refused = making_fault refused Sections
+
 -- Open, fully preemptive: every tick may be the last of a stretch.
 abbrev pub open_shape : ℕ → Shape
 open_shape cost = record {
@@ -94,7 +98,7 @@ shut_sections = shaped shut_shape
 
 -- the making of open and of shut sections, from costs
 abbrev pub costs_fault : List ℕ → Option Fault
-costs_fault = making_fault (outside 1 most_cost) Sections
+costs_fault = sections_fault (outside 1 most_cost)
 
 abbrev pub floating_sections : List FloatingTask → SectionsMeaning
 floating_sections = shaped floating_shape
@@ -104,7 +108,7 @@ abbrev pub floating_refused : FloatingTask → Option Refusal
 floating_refused task = outside 1 most_cost task.cost or_else outside 1 task.cost task.longest
 
 abbrev pub floating_fault : List FloatingTask → Option Fault
-floating_fault = making_fault floating_refused Sections
+floating_fault = sections_fault floating_refused
 
 -- a points row is eight numbers, the segments with 0 behind the last
 abbrev pub points_sections : List (List ℕ) → SectionsMeaning
@@ -126,4 +130,4 @@ abbrev pub points_refused : List ℕ → Option Refusal
 points_refused row = outside 1 most_cost (slice_index row 0) or_else (segments_refused row or_else outside 1 most_cost (sum (used row)))
 
 abbrev pub points_fault : List (List ℕ) → Option Fault
-points_fault = making_fault points_refused Sections
+points_fault = sections_fault points_refused

@@ -7,10 +7,8 @@ pub fn used(row: &[u32]) -> &[u32]
     ensures value { result.now ≡ used row.now }
     ensures within { length result.now ≤ length row.now }
 {
-    for (place, number) in row.iter().enumerate() {
-        if *number == 0 {
-            return &row[0..place];
-        }
+    match row.iter().position(|number| *number == 0) {
+        Some(end) => &row[..end],
+        None => row,
     }
-    row
 }

@@ -1,8 +1,9 @@
 // Earliest deadline first: the earlier of release plus relative deadline goes first.
-ghost use Rattle.std.specs.Prelude.{◌≡◌, ◌+◌, Some, None, MatchResult};
+ghost use Rattle.std.specs.Prelude.{◌≡◌, ◌+◌};
 ghost use Rattle.kinds.specs.OrderKinds.{earliest_deadline, relative_deadlines_fault};
 ghost use Rattle.kinds.proofs.OrderLaws.{earliest_deadline_lawful};
 ghost use Rattle.rows.specs.Kept.{kept};
+ghost use Rattle.rows.specs.Making.{MakesUnlessFault};
 
 use model::fault::{Fault, Part};
 use model::order::Order;
@@ -24,9 +25,7 @@ pub struct EarliestDeadline {
 impl EarliestDeadline {
     // One relative deadline for each task.
     pub fn new(deadlines: &[u32]) -> Result<EarliestDeadline, Fault>
-        ensures { MatchResult result
-            (λ s. (kept s.rows ≡ deadlines.now) × (relative_deadlines_fault deadlines.now ≡ None))
-            (λ f. relative_deadlines_fault deadlines.now ≡ Some f) }
+        ensures { MakesUnlessFault result (relative_deadlines_fault deadlines.now) (λ s. kept s.rows ≡ deadlines.now) }
     {
         let rows = PerTask::checked(&LIMITS, Part::Order, deadlines)?;
         Ok(EarliestDeadline { rows })
@@ -43,31 +42,27 @@ impl Order for EarliestDeadline {
     }
 
     fn ahead(&self, job: Released, other: Released) -> bool {
-        match (self.rows.get(job.task), self.rows.get(other.task)) {
-            (Some(own), Some(later)) => due(job.at, own) <= due(other.at, later),
-            _ => false,
-        }
+        self.rows
+            .both(job.task, other.task)
+            .is_some_and(|(own, later)| due(job.at, own) <= due(other.at, later))
     }
 
     fn reach(&self, task: u8, other: u8, offset: u32) -> Reach {
-        match (self.rows.get(task), self.rows.get(other)) {
-            (Some(own), Some(other)) => {
-                let after_due = due(offset, own) + 1;
-                Reach::Ticks(after_due.saturating_sub(u64::from(other)))
-            }
-            _ => Reach::Ticks(0),
-        }
+        let ticks = self.rows.both(task, other).map_or(0, |(own, other)| {
+            let after_due = due(offset, own) + 1;
+            after_due.saturating_sub(u64::from(other))
+        });
+        Reach::Ticks(ticks)
     }
 
     fn counted(&self, task: u8, other: u8) -> bool {
-        self.rows.get(task).is_some() && self.rows.get(other).is_some()
+        self.rows.both(task, other).is_some()
     }
 
     fn blocks(&self, task: u8, lower: u8) -> bool {
-        match (self.rows.get(task), self.rows.get(lower)) {
-            (Some(own), Some(lower)) => own < lower,
-            _ => false,
-        }
+        self.rows
+            .both(task, lower)
+            .is_some_and(|(own, lower)| own < lower)
     }
 }
 

@@ -1,8 +1,9 @@
 // Fixed priority: the larger urgency goes first, and jobs of equal urgency are level.
-ghost use Rattle.std.specs.Prelude.{◌≡◌, Some, None, MatchResult};
+ghost use Rattle.std.specs.Prelude.{◌≡◌};
 ghost use Rattle.kinds.specs.OrderKinds.{fixed_priority, urgencies_fault, urgency_refused};
 ghost use Rattle.kinds.proofs.OrderLaws.{fixed_priority_lawful};
 ghost use Rattle.rows.specs.Kept.{kept};
+ghost use Rattle.rows.specs.Making.{MakesUnlessFault};
 
 use model::fault::{Fault, Part, Refusal};
 use model::order::Order;
@@ -29,9 +30,7 @@ pub struct FixedPriority {
 impl FixedPriority {
     // One urgency for each task.
     pub fn new(urgencies: &[u8]) -> Result<FixedPriority, Fault>
-        ensures { MatchResult result
-            (λ s. (kept s.rows ≡ urgencies.now) × (urgencies_fault urgencies.now ≡ None))
-            (λ f. urgencies_fault urgencies.now ≡ Some f) }
+        ensures { MakesUnlessFault result (urgencies_fault urgencies.now) (λ s. kept s.rows ≡ urgencies.now) }
     {
         let rows = PerTask::checked(&AnyUrgency, Part::Order, urgencies)?;
         Ok(FixedPriority { rows })
@@ -48,30 +47,27 @@ impl Order for FixedPriority {
     }
 
     fn ahead(&self, job: Released, other: Released) -> bool {
-        match (self.rows.get(job.task), self.rows.get(other.task)) {
-            (Some(own), Some(other)) => other <= own,
-            _ => false,
-        }
+        self.rows
+            .both(job.task, other.task)
+            .is_some_and(|(own, other)| other <= own)
     }
 
     fn reach(&self, task: u8, other: u8, _offset: u32) -> Reach {
-        match (self.rows.get(task), self.rows.get(other)) {
-            (Some(own), Some(other)) if own <= other => Reach::NoEnd,
+        match self.rows.both(task, other) {
+            Some((own, other)) if own <= other => Reach::NoEnd,
             _ => Reach::Ticks(0),
         }
     }
 
     fn counted(&self, task: u8, other: u8) -> bool {
-        match (self.rows.get(task), self.rows.get(other)) {
-            (Some(own), Some(other)) => own <= other,
-            _ => false,
-        }
+        self.rows
+            .both(task, other)
+            .is_some_and(|(own, other)| own <= other)
     }
 
     fn blocks(&self, task: u8, lower: u8) -> bool {
-        match (self.rows.get(task), self.rows.get(lower)) {
-            (Some(own), Some(lower)) => lower < own,
-            _ => false,
-        }
+        self.rows
+            .both(task, lower)
+            .is_some_and(|(own, lower)| lower < own)
     }
 }

@@ -1,6 +1,7 @@
 // One row for each of up to sixteen tasks, kept in place.
 ghost use Rattle.std.specs.Prelude.{◌≡◌, length};
 ghost use Rattle.std.specs.List.{slice_get};
+ghost use Rattle.std.specs.Option.{option_zip};
 ghost use Rattle.model.specs.Rows.{making_fault};
 ghost use Rattle.rows.specs.Kept.{kept};
 ghost use Rattle.rows.specs.Making.{MakesUnlessFault};
@@ -40,5 +41,11 @@ impl<T: Copy + Default> PerTask<T> {
         ensures { result ≡ slice_get (kept self.now) task }
     {
         self.rows.get(usize::from(task)).copied()
+    }
+    // The rows of two tasks, if both have one.
+    pub fn both(&self, task: u8, other: u8) -> Option<(T, T)>
+        ensures { result ≡ option_zip (slice_get (kept self.now) task) (slice_get (kept self.now) other) }
+    {
+        self.get(task).zip(self.get(other))
     }
 }

@@ -1,15 +1,18 @@
 // Point sections, preemption at fixed points: a job is the given segments one after the other, and opens between them.
-ghost use Rattle.std.specs.Prelude.{◌≡◌};
+ghost use Rattle.std.specs.Prelude.{◌≡◌, ◌≤◌, length, sum};
 ghost use Rattle.kinds.specs.Numbers.{used};
 ghost use Rattle.kinds.specs.SectionKinds.{points_shape, points_refused, segments_refused, number_behind};
 ghost use Rattle.kinds.proofs.SectionLaws.{points_shape_lawful};
+ghost use Rattle.model.specs.Rows.{outside};
+ghost use Rattle.model.specs.Sections.{most_cost};
 
-use crate::costs::MOST_COST;
+use crate::costs::{COSTS, MOST_COST};
 use crate::row_shape::RowShape;
 use crate::segments;
 use crate::shaped_sections::ShapedSections;
 use kinds::numbers::used;
 use model::fault::Refusal;
+use rows::rule::RowRule;
 
 // A part that is made of up to eight segments for each task, with 0 behind the last.
 pub type PointSections = ShapedSections<Points>;
@@ -27,17 +30,10 @@ impl RowShape for Points {
 
     // Segments with 0 behind the last, each between its limits, and their sum too.
     fn refused(row: &[u32; 8]) -> Option<Refusal> {
-        if row[0] < 1 || row[0] > MOST_COST {
-            return Some(Refusal::Range);
-        }
-        if let Some(refusal) = refused_segment(row) {
-            return Some(refusal);
-        }
-        let cost = segments::total(used(row));
-        if cost < 1 || cost > u64::from(MOST_COST) {
-            return Some(Refusal::Range);
-        }
-        None
+        COSTS
+            .refused(&row[0])
+            .or_else(|| refused_segment(row))
+            .or_else(|| refused_total(used(row)))
     }
 
     fn cost(row: &[u32; 8]) -> u32 {
@@ -65,31 +61,37 @@ impl RowShape for Points {
     }
 }
 
+// A segment that is no cost, or a number behind the first 0.
 fn refused_segment(row: &[u32]) -> Option<Refusal>
     ensures { result ≡ segments_refused row.now }
 {
-    for (place, number) in row.iter().enumerate() {
-        if *number == 0 {
-            return refused_behind(&row[place + 1..]);
-        }
-        if *number > MOST_COST {
-            return Some(Refusal::Range);
-        }
+    let segments = used(row);
+    if segments.iter().any(|segment| *segment > MOST_COST) {
+        return Some(Refusal::Range);
     }
-    None
+    refused_behind(&row[segments.len()..])
 }
 
 // Behind the first 0 no number stands.
 fn refused_behind(numbers: &[u32]) -> Option<Refusal>
     ensures { result ≡ number_behind numbers.now }
 {
-    for number in numbers {
+    numbers.iter().find(|number| **number != 0).map(|number| {
         if *number > MOST_COST {
-            return Some(Refusal::Range);
+            Refusal::Range
+        } else {
+            Refusal::Order
         }
-        if *number != 0 {
-            return Some(Refusal::Order);
-        }
+    })
+}
+
+fn refused_total(segments: &[u32]) -> Option<Refusal>
+    requires { length segments.now ≤ 8 }
+    ensures { result ≡ outside 1 most_cost (sum segments.now) }
+{
+    if (1..=u64::from(MOST_COST)).contains(&segments::total(segments)) {
+        None
+    } else {
+        Some(Refusal::Range)
     }
-    None
 }

@@ -6,11 +6,7 @@ pub(crate) fn total(segments: &[u32]) -> u64
     requires { length segments.now ≤ 8 }
     ensures { result ≡ sum segments.now }
 {
-    let mut ticks = 0;
-    for segment in segments {
-        ticks += u64::from(*segment);
-    }
-    ticks
+    segments.iter().map(|segment| u64::from(*segment)).sum()
 }
 
 // The ticks from the start of a job to the end of a segment.
@@ -18,26 +14,19 @@ fn up_to(segments: &[u32], place: usize) -> u64
     requires { (place < length segments.now) × (length segments.now ≤ 8) }
     ensures { result ≡ sum (take (suc place) segments.now) }
 {
-    total(&segments[0..place + 1])
+    total(&segments[..=place])
 }
 
 pub(crate) fn longest(segments: &[u32]) -> u32
     ensures { result ≡ largest segments.now }
 {
-    let mut longest = 0u32;
-    for segment in segments {
-        longest = longest.max(*segment);
-    }
-    longest
+    segments.iter().copied().max().unwrap_or(0)
 }
 
 pub(crate) fn last(segments: &[u32]) -> u32
     ensures { result ≡ final 0 segments.now }
 {
-    match segments.last() {
-        Some(last) => *last,
-        None => 0,
-    }
+    segments.last().copied().unwrap_or(0)
 }
 
 // Whether a tick of a segment leaves some of it.

@@ -1,10 +1,8 @@
 // Sections that are given by a row for each task.
 ghost use Rattle.std.specs.Prelude.{◌≡◌, Some, None};
-ghost use Rattle.kinds.specs.SectionKinds.{shaped};
+ghost use Rattle.kinds.specs.SectionKinds.{shaped, sections_fault};
 ghost use Rattle.kinds.specs.Unfaulted.{Unfaulted, no_fault};
 ghost use Rattle.kinds.proofs.SectionLaws.{made_lawful};
-ghost use Rattle.model.specs.Rows.{making_fault};
-ghost use Rattle.model.specs.declared.fault.Part.TheVariants.{Sections as SectionsPart};
 ghost use Rattle.rows.specs.Kept.{kept};
 ghost use Rattle.rows.specs.Making.{MakesUnlessFault};
 
@@ -19,7 +17,7 @@ use std::marker::PhantomData;
 pub struct ShapedSections<K: RowShape> {
     rows: PerTask<K::Row>,
     // the laws hold of no other rows: a cost of 0 would leave no tick for the tail
-    ghost faultless: { Unfaulted (making_fault K.refuses SectionsPart (kept rows)) },
+    ghost faultless: { Unfaulted (sections_fault K.refuses (kept rows)) },
 }
 
 // What a kind refuses about a row.
@@ -36,7 +34,7 @@ impl<K: RowShape> RowRule<K::Row> for Refused<K> {
 impl<K: RowShape> ShapedSections<K> {
     // One row for each task.
     pub fn new(rows: &[K::Row]) -> Result<Self, Fault>
-        ensures { MakesUnlessFault result (making_fault K.refuses SectionsPart rows.now) (λ s. kept s.rows ≡ rows.now) }
+        ensures { MakesUnlessFault result (sections_fault K.refuses rows.now) (λ s. kept s.rows ≡ rows.now) }
     {
         let rows = PerTask::checked(&Refused::<K>(PhantomData), Part::Sections, rows)?;
         Ok(ShapedSections { rows })
@@ -46,7 +44,7 @@ impl<K: RowShape> ShapedSections<K> {
 impl<K: RowShape> Sections for ShapedSections<K> {
     ghost meaning = { λ s. shaped K.shape (kept s.rows) };
 
-    ghost lawful = { λ s. made_lawful K.shape K.refuses K.lawful (kept s.rows) (no_fault (making_fault K.refuses SectionsPart (kept s.rows)) s.faultless) };
+    ghost lawful = { λ s. made_lawful K.shape K.refuses K.lawful (kept s.rows) (no_fault (sections_fault K.refuses (kept s.rows)) s.faultless) };
 
     fn tasks(&self) -> u8 {
         self.rows.tasks()

@@ -1,27 +1,30 @@
-use Rattle.std.proofs.Common.{◌≡◌, ℕ, zero, suc, ◌<◌, List, [], ◌∷◌, get_or, take, sym, refl, ap, ◌∙◌, arith, rules}
-use Rattle.std.proofs.lemmas.List.{get_or_past, take_all, places}
+use Rattle.std.proofs.Common.{◌≡◌, ℕ, zero, suc, ◌==◌, not, List, [], ◌∷◌, length, take, cond, ltb, Some, None, refl, rules, arith, ap, ◌∙◌, sym, add-one}
+use Rattle.std.specs.List.{position_or_len, position, before_first}
+use Rattle.std.proofs.lemmas.List.{take_all}
+use Rattle.std.proofs.lemmas.List.Sums.{take_while-cons}
+use Rattle.std.proofs.lemmas.Iterator.{YieldsList-from_slice}
+use Rattle.std.proofs.lemmas.Iterator.Search.{position_from_yields_List}
+use Rattle.std.proofs.lemmas.Bool.Decides.{nat_tests}
+use Rattle.std.proofs.lemmas.Grind.{common_steps}
+use borrow.Author.Tests.{tests}
 use Rattle.kinds.specs.Numbers.{used}
 use Rattle.kinds.proofs.numbers.used.Goals as goal
 
--- the numbers up to the first 0
-used_front : (xs : List ℕ) (n : ℕ) → ((k : ℕ) → k < n → get_or xs k 0 ≡ 0 → ⊥) → get_or xs n 0 ≡ 0 → take n xs ≡ used xs
-used_front [] zero before here = refl
-used_front [] (suc n) before here = refl
-used_front (zero ∷ xs) zero before here = refl
-used_front (zero ∷ xs) (suc n) before here = absurd (before 0 (omega arith) refl)
-used_front (suc x ∷ xs) zero before here = absurd (omega arith)
-used_front (suc x ∷ xs) (suc n) before here = ap (λ ys. suc x ∷ ys) (used_front xs n (λ k below. before (suc k) (omega arith)) here)
+-- the used numbers are those before the first 0
+used_before : (xs : List ℕ) → before_first (λ x. x == 0) xs ≡ used xs
+used_before [] = refl
+used_before (zero ∷ xs) = refl
+used_before (suc x ∷ xs) = let before = used_before xs in let first = take_while-cons (λ n. not (n == 0)) (suc x) xs in grind (arith, nat_tests)
 
-pub returns-then-number-eq0 : goal.returns-then-number-eq0
-returns-then-number-eq0 c =
-    let front = used_front c.args.row.now c.loop-place.place c.loop-place.invariant c.if-number-eq0.true in
-    record { value = search rules; within = search (rules, places) }
+pub returns-in-Some-clause-value : goal.returns-in-Some-clause-value
+returns-in-Some-clause-value c =
+    let found = position_from_yields_List (λ x. x == 0) _ _ c.position.result c.position.ensures.ran (YieldsList-from_slice c.args.row.now cc) (λ x b q k. search (rules, tests)) in
+    let before = used_before c.args.row.now in
+    grind (arith, nat_tests)
 
-pub returns : goal.returns
-returns c =
-    let row = c.args.row.now in
-    let past = c.loop-place-test.false in
-    record {
-      value = sym (take_all c.loop-place.place row past) ∙ used_front row c.loop-place.place c.loop-place.invariant (get_or_past row c.loop-place.place 0 past);
-      within = search rules;
-    }
+pub returns-in-None-clause-value : goal.returns-in-None-clause-value
+returns-in-None-clause-value c =
+    let found = position_from_yields_List (λ x. x == 0) _ _ c.position.result c.position.ensures.ran (YieldsList-from_slice c.args.row.now cc) (λ x b q k. search (rules, tests)) in
+    let before = used_before c.args.row.now in
+    let whole = take_all (position_or_len (λ x. x == 0) c.args.row.now) c.args.row.now in
+    grind (arith, nat_tests)

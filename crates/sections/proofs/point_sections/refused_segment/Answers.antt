@@ -1,43 +1,31 @@
-use Rattle.std.proofs.Common.{◌≡◌, ℕ, zero, suc, ◌+◌, ◌<◌, ◌≤◌, List, ◌∷◌, drop, Some, None, sym, refl, ap, ◌∙◌, arith}
-use Rattle.std.proofs.lemmas.List.{at_drop_more, at_drop_all, take_rest}
+use Rattle.std.proofs.Common.{◌≡◌, ℕ, zero, suc, cond, nat_lt, List, [], ◌∷◌, length, drop, Some, refl, arith, rules}
+use Rattle.std.specs.List.{list_any}
+use Rattle.std.proofs.lemmas.List.{take_rest}
+use Rattle.std.proofs.lemmas.Iterator.{YieldsList-from_slice}
+use Rattle.std.proofs.lemmas.Iterator.Search.{any_from_yields_List}
 use Rattle.std.proofs.lemmas.Bool.Decides.{nat_tests}
-use Rattle.model.specs.Choice.{◌or_else◌}
-use Rattle.model.specs.Rows.{outside}
+use borrow.Author.Tests.{tests}
 use Rattle.model.specs.Sections.{most_cost}
 use Rattle.model.specs.declared.fault.Refusal.TheVariants.{Range}
+use Rattle.kinds.specs.Numbers.{used}
 use Rattle.kinds.specs.SectionKinds.{segments_refused, number_behind}
 use Rattle.sections.proofs.point_sections.refused_segment.Goals as goal
 
--- what is refused about a segment, or else about those behind it
-large : (x : ℕ) (xs : List ℕ) → most_cost < x → segments_refused (x ∷ xs) ≡ Some Range
-large zero xs above = absurd (omega arith)
-large (suc x) xs above =
-    let out : outside 1 most_cost (suc x) ≡ Some Range = grind (arith, nat_tests) in
-    ap (λ o. o or_else segments_refused xs) out
+-- what is refused about the used numbers, or else about those behind them
+apart : (xs : List ℕ) → segments_refused xs ≡ cond (list_any (λ x. nat_lt most_cost x) (used xs)) (Some Range) (number_behind (drop (length (used xs)) xs))
+apart [] = refl
+apart (zero ∷ xs) = refl
+apart (suc x ∷ xs) = let behind = apart xs in grind (arith, nat_tests)
 
-within : (x : ℕ) (xs : List ℕ) → (x ≡ 0 → ⊥) → x ≤ most_cost → segments_refused (x ∷ xs) ≡ segments_refused xs
-within zero xs positive small = absurd (positive refl)
-within (suc x) xs positive small =
-    let passes : outside 1 most_cost (suc x) ≡ None = grind (arith, nat_tests) in
-    ap (λ o. o or_else segments_refused xs) passes
-
-pub returns-then-number-eq0 : goal.returns-then-number-eq0
-returns-then-number-eq0 c =
-    let xs = c.args.row.now in
-    let i = c.loop-place.place in
-    c.refused_behind.ensures
-    ∙ ap number_behind (take_rest xs (i + 1))
-    ∙ sym (c.loop-place.invariant ∙ at_drop_more segments_refused xs i 0 c.loop-place-test.true ∙ ap (λ x. segments_refused (x ∷ drop (i + 1) xs)) c.if-number-eq0.true)
-
-pub returns-then-number-gt-MOST_COST : goal.returns-then-number-gt-MOST_COST
-returns-then-number-gt-MOST_COST c =
-    sym (c.loop-place.invariant ∙ at_drop_more segments_refused c.args.row.now c.loop-place.place 0 c.loop-place-test.true ∙ large _ _ c.if-number-gt-MOST_COST.true)
-
-pub loop-place-preserved : goal.loop-place-preserved
-loop-place-preserved c =
-    c.loop-place.invariant
-    ∙ at_drop_more segments_refused c.args.row.now c.loop-place.place 0 c.loop-place-test.true
-    ∙ within _ _ c.if-number-eq0.false c.if-number-gt-MOST_COST.false
+pub returns-then-any : goal.returns-then-any
+returns-then-any c =
+    let found = any_from_yields_List (λ x. nat_lt most_cost x) _ _ c.any.result c.any.ensures.ran (YieldsList-from_slice c.used-segments.result.now cc) (λ x b q k. search (rules, tests)) in
+    let whole = apart c.args.row.now in
+    grind (arith, nat_tests)
 
 pub returns : goal.returns
-returns c = sym (c.loop-place.invariant ∙ at_drop_all segments_refused c.args.row.now c.loop-place.place c.loop-place-test.false)
+returns c =
+    let found = any_from_yields_List (λ x. nat_lt most_cost x) _ _ c.any.result c.any.ensures.ran (YieldsList-from_slice c.used-segments.result.now cc) (λ x b q k. search (rules, tests)) in
+    let whole = apart c.args.row.now in
+    let rest = take_rest c.args.row.now (length c.used-segments.result.now) in
+    grind (arith, nat_tests)

@@ -1,4 +1,3 @@
-use Rattle.std.proofs.Common.{rules}
 use Rattle.std.proofs.iter.Serving.{serving}
 use Rattle.model.specs.declared.fault.Part.TheVariants.{Sections}
 use Rattle.kinds.specs.Unfaulted.{no_fault}
