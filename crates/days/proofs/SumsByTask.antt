@@ -21,9 +21,7 @@ total_none n f each = omega (arith, total_bound n 0 f (λ k below. omega (arith,
 
 -- a sum of the same terms
 total_same : (n : ℕ) (f g : ℕ → ℕ) → ((k : ℕ) → f k ≡ g k) → total n f ≡ total n g
-unfolding total
-total_same zero f g same = refl
-total_same (suc n) f g same = omega (arith, same n, total_same n f g same)
+total_same n f g same = omega (arith, total_le n f g (λ k below. omega (arith, same k)), total_le n g f (λ k below. omega (arith, same k)))
 
 -- a sum with one term
 total_only : (n i c : ℕ) → i < n → total n (λ k. when (eqb i k) c) ≡ c

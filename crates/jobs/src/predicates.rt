@@ -39,7 +39,7 @@ pub fn has_ended(job: &Job, task: u8) -> bool
 
 // Whether it is a job of the task that was released at `tick` or later.
 pub fn is_released_since(job: &Job, task: u8, tick: u32) -> bool
-    ensures { result ≡ (of_task task job.now && nat_le tick (job.now).release) }
+    ensures { result ≡ (of_task task job.now && nat_le tick job.now.release) }
 {
     job.task == task && tick <= job.release
 }
@@ -51,7 +51,7 @@ pub fn is_more_urgent<P: Parts>(parts: &P, job: &Job, other: &Job) -> bool
     is_unfinished(other) && !parts.order().ahead(released(job), released(other))
 }
 
-// The job as an order names it.
+// The job as an order names it. Both types are of other crates, so this is no `From`.
 fn released(job: &Job) -> Released
     ensures { result ≡ Rattle.days.specs.Jobs.released job.now }
 {

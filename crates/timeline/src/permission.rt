@@ -14,7 +14,7 @@ use model::parts::Parts;
 use model::sections::Sections;
 
 // Why another job has to be served first: while one is held only that one is served, and else the most urgent.
-pub(crate) fn rival<P: Parts>(jobs: &[Job], parts: &P, job: &Job) -> Option<Refusal>
+pub(crate) fn rival<P: Parts>(parts: &P, jobs: &[Job], job: &Job) -> Option<Refusal>
     ensures { result ≡ rival (P.meaning parts.now) jobs.now job.now }
 {
     if any_held(jobs) {

@@ -45,7 +45,7 @@ impl Timeline {
         requires { latest job.now ≤ last_tick }
         ensures { result ≡ obstacle (P.meaning parts.now) self.entry.now.jobs.items mark job.now }
     {
-        rival(self.jobs.as_slice(), parts, job).or_else(|| {
+        rival(parts, self.jobs.as_slice(), job).or_else(|| {
             let forbidden = !is_allowed(parts, mark, job);
             forbidden.then_some(Refusal::Section)
         })
