@@ -1,5 +1,5 @@
 -- Entries in order, as a test of those before the first 0 and a test of those from it on.
-use Rattle.std.proofs.Common.{◌≡◌, ℕ, zero, suc, ◌+◌, ◌<◌, ◌≤◌, ◌==◌, Bool, true, false, ◌&&◌, nat_le, nat_eq, List, [], ◌∷◌, length, get_or, drop, refl, sym, ap, arith}
+use Rattle.std.proofs.Common.{◌≡◌, ℕ, zero, suc, ◌+◌, ◌<◌, ◌≤◌, ◌==◌, Bool, true, false, ◌&&◌, nat_le, nat_eq, List, [], ◌∷◌, length, get_or, drop, refl, sym, arith}
 use Rattle.std.specs.Bool.{MatchBool}
 use Rattle.std.specs.List.{list_all, starts_with}
 use Rattle.std.specs.List.Sorted.{IsNonDecreasing}
@@ -38,14 +38,9 @@ sorted_is [] false answer = absurd (omega (arith, answer.1))
 sorted_is (x ∷ xs) true answer = sym (rising_true x xs answer)
 sorted_is (x ∷ xs) false answer = sym (rising_false x xs answer.0 answer.1 answer.2)
 
--- nothing but 0
-blank_all : (xs : List ℕ) → blank xs ≡ list_all (λ x. x == 0) xs
-blank_all [] = refl
-blank_all (x ∷ xs) = ap (λ b. x == 0 && b) (blank_all xs)
-
 climbs_apart : (repeat last : ℕ) (xs : List ℕ) → climbs repeat last xs ≡ (rising last (used xs) && (list_all (λ t. nat_le t repeat) (used xs) && list_all (λ x. x == 0) (drop (length (used xs)) xs)))
 climbs_apart repeat last [] = refl
-climbs_apart repeat last (zero ∷ xs) = blank_all xs
+climbs_apart repeat last (zero ∷ xs) = refl
 climbs_apart repeat last (suc x ∷ xs) = let later = climbs_apart repeat (suc x) xs in grind (arith, nat_tests)
 
 pub in_order_apart : (repeat : ℕ) (xs : List ℕ) → 1 ≤ repeat → entries_in_order repeat xs ≡ (starts_with nat_eq (used xs) (1 ∷ []) && (sorted (used xs) && (list_all (λ t. nat_le t repeat) (used xs) && list_all (λ x. x == 0) (drop (length (used xs)) xs))))
