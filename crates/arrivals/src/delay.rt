@@ -1,11 +1,13 @@
 // Delay: a release can come up to the task's delay late, so that those of a longer time fall together.
-ghost use Rattle.std.specs.Prelude.{◌≡◌, Some, None, MatchResult, slice_index};
+ghost use Rattle.std.specs.Prelude.{◌≡◌};
 ghost use Rattle.kinds.specs.ArrivalKinds.{delayed, delays_fault};
 ghost use Rattle.kinds.proofs.ArrivalLaws.{delayed_lawful};
+ghost use Rattle.rows.specs.Making.{MakesUnlessFault};
 
 use crate::spacing::MOST_SPACING;
 use model::arrivals::Arrivals;
 use model::fault::{Fault, Part};
+use rows::column::entry;
 use rows::rule::{Limits, making_fault};
 
 // A release may also come in time.
@@ -23,23 +25,11 @@ pub struct Delays {
 impl Delays {
     // One delay for each of sixteen tasks, also for those that there are not.
     pub fn new(ticks: &[u32; 16]) -> Result<Delays, Fault>
-        ensures { MatchResult result
-            (λ s. (s.ticks ≡ ticks.now) × (delays_fault ticks.now ≡ None))
-            (λ f. delays_fault ticks.now ≡ Some f) }
+        ensures { MakesUnlessFault result (delays_fault ticks.now) (λ s. s.ticks ≡ ticks.now) }
     {
         match making_fault(&LIMITS, Part::Arrivals, ticks) {
             None => Ok(Delays { ticks: *ticks }),
             Some(fault) => Err(fault),
-        }
-    }
-
-    // The delay of a task, and 0 for a task past the sixteenth.
-    fn of(&self, task: u8) -> u32
-        ensures { result ≡ slice_index self.now.ticks task }
-    {
-        match self.ticks.get(usize::from(task)) {
-            Some(ticks) => *ticks,
-            None => 0,
         }
     }
 }
@@ -72,7 +62,7 @@ impl<L: Arrivals> Arrivals for Delay<L> {
         if length == 0 {
             return 0;
         }
-        self.below
-            .count(task, length.saturating_add(self.delays.of(task)))
+        let delay = entry(&self.delays.ticks, task);
+        self.below.count(task, length.saturating_add(delay))
     }
 }

@@ -1,8 +1,9 @@
 // Separations: two releases of a task lie at least its separation apart.
-ghost use Rattle.std.specs.Prelude.{◌≡◌, ◌≤◌, Some, None, MatchResult};
+ghost use Rattle.std.specs.Prelude.{◌≡◌, ◌≤◌};
 ghost use Rattle.kinds.specs.ArrivalKinds.{rounded_up, separated, separations_fault};
 ghost use Rattle.kinds.proofs.ArrivalLaws.{separated_lawful};
 ghost use Rattle.rows.specs.Kept.{kept};
+ghost use Rattle.rows.specs.Making.{MakesUnlessFault};
 ghost use Rattle.kinds.specs.Unfaulted.{Unfaulted, no_fault};
 
 use crate::spacing::MOST_SPACING;
@@ -27,9 +28,7 @@ pub struct Separations {
 impl Separations {
     // One separation for each task.
     pub fn new(separations: &[u32]) -> Result<Separations, Fault>
-        ensures { MatchResult result
-            (λ s. (kept s.rows ≡ separations.now) × (separations_fault separations.now ≡ None))
-            (λ f. separations_fault separations.now ≡ Some f) }
+        ensures { MakesUnlessFault result (separations_fault separations.now) (λ s. kept s.rows ≡ separations.now) }
     {
         let rows = PerTask::checked(&LIMITS, Part::Arrivals, separations)?;
         Ok(Separations { rows })
@@ -46,10 +45,9 @@ impl Arrivals for Separations {
     }
 
     fn count(&self, task: u8, length: u32) -> u64 {
-        match self.rows.get(task) {
-            Some(separation) => rounded(length, separation),
-            None => 0,
-        }
+        self.rows
+            .get(task)
+            .map_or(0, |separation| rounded(length, separation))
     }
 }
 

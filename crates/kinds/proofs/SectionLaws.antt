@@ -3,7 +3,7 @@ use Rattle.std.proofs.Common.{◌≡◌, ℕ, zero, suc, ◌+◌, ◌-◌, ◌<�
 use Rattle.std.specs.List.{slice_get}
 use Rattle.std.proofs.lemmas.List.Sums.{sum_by-cons, sum_by-take-le}
 use Rattle.std.proofs.lemmas.Bool.Decides.{nat_tests}
-use Rattle.model.specs.Rows.{outside, making_fault}
+use Rattle.model.specs.Rows.{outside}
 use Rattle.model.specs.Sections.{LawfulSections, most_cost}
 use Rattle.model.specs.declared.fault.Part.TheVariants.{Sections}
 use Rattle.model.specs.declared.fault.Refusal.{Refusal}

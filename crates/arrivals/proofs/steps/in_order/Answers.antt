@@ -1,15 +1,48 @@
-use Rattle.std.proofs.Common.{◌≡◌, ℕ, List, [], ◌∷◌, get_or, drop, sym, ap, ◌∙◌, arith}
+use Rattle.std.proofs.Common.{◌≡◌, ◌==◌, false, nat_le, length, drop, sym, ◌∙◌, arith, rules}
+use Rattle.std.specs.List.{list_all}
 use Rattle.std.proofs.lemmas.List.{take_rest}
+use Rattle.std.proofs.lemmas.List.Sorted.{non_decreasing_from_is_sorted}
+use Rattle.std.proofs.lemmas.Iterator.{YieldsList-from_slice}
+use Rattle.std.proofs.lemmas.Iterator.Search.{all_from_yields_List}
 use Rattle.std.proofs.lemmas.Bool.Decides.{nat_tests}
-use Rattle.kinds.specs.ArrivalKinds.{climbs, entries_in_order}
+use borrow.Author.Tests.{tests}
+use Rattle.kinds.specs.Numbers.{used}
+use Rattle.arrivals.proofs.InOrder.{sorted_is, in_order_apart, third_fails}
 use Rattle.arrivals.proofs.steps.in_order.Goals as goal
+use Rattle.arrivals.proofs.steps.in_order.Goals.{then-starts_with, else-starts_with, then-is_sorted, else-is_sorted}
 
--- entries that start at 1 are in order where those behind the first climb
-from_one : (repeat : ℕ) (xs : List ℕ) → get_or xs 0 0 ≡ 1 → entries_in_order repeat xs ≡ climbs repeat (get_or xs 0 0) (drop 1 xs)
-from_one repeat [] one = absurd (omega arith)
-from_one repeat (x ∷ xs) one = grind (arith, nat_tests)
+pub returns-then-all : goal.returns-then-all
+returns-then-all c =
+    let ticks = c.used-ticks.result.now in
+    let apart = in_order_apart c.args.repeat c.args.entries.now c.requires in
+    let rest = take_rest c.args.entries.now (length ticks) in
+    let behind = all_from_yields_List (λ x. x == 0) _ _ c.all-then-all.result c.all-then-all.ensures.ran (YieldsList-from_slice (drop (length ticks) c.args.entries.now) cc) (λ x b q k. search (rules, tests)) in
+    elim c.if-is_sorted.branch [
+      | then-is_sorted w ↦
+          let within = all_from_yields_List (λ t. nat_le t c.args.repeat) _ _ w.all.result w.all.ensures.ran (YieldsList-from_slice ticks cc) (λ x b q k. search (rules, tests)) in
+          elim c.if-starts_with.branch [
+            | then-starts_with v ↦
+                let rises = sorted_is ticks v.is_sorted.result (non_decreasing_from_is_sorted ticks _ v.is_sorted.ensures.cases) in
+                grind (arith, nat_tests)
+            | else-starts_with v ↦ grind (arith, nat_tests)
+          ]
+      | else-is_sorted w ↦ grind (arith, nat_tests)
+    ]
 
-pub returns-then-first-eq1 : goal.returns-then-first-eq1
-returns-then-first-eq1 c =
-    let xs = c.args.entries.now in
-    c.climb.ensures ∙ ap (climbs c.args.repeat (get_or xs 0 0)) (take_rest xs 1) ∙ sym (from_one c.args.repeat xs c.if-first-eq1.true)
+pub returns-else-all : goal.returns-else-all
+returns-else-all c =
+    let ticks = c.used-ticks.result.now in
+    let apart = in_order_apart c.args.repeat c.args.entries.now c.requires in
+    elim c.if-is_sorted.branch [
+      | then-is_sorted w ↦
+          let within = all_from_yields_List (λ t. nat_le t c.args.repeat) _ _ w.all.result w.all.ensures.ran (YieldsList-from_slice ticks cc) (λ x b q k. search (rules, tests)) in
+          let fails : list_all (λ t. nat_le t c.args.repeat) (used c.args.entries.now) ≡ false = cc in
+          c.if-all.false ∙ sym (apart ∙ third_fails _ _ _ _ fails)
+      | else-is_sorted w ↦
+          elim c.if-starts_with.branch [
+            | then-starts_with v ↦
+                let rises = sorted_is ticks v.is_sorted.result (non_decreasing_from_is_sorted ticks _ v.is_sorted.ensures.cases) in
+                grind (arith, nat_tests)
+            | else-starts_with v ↦ grind (arith, nat_tests)
+          ]
+    ]

@@ -1,6 +1,6 @@
 use Rattle.std.proofs.Common.{◌≡◌, ℕ, ◌+◌, ◌-◌, ◌*◌, ◌%◌, ◌≤◌, max, List, length, get_or, drop, ap, ◌∙◌, div-le_self, arith, length-drop, length-take, rules}
 use Rattle.std.proofs.lemmas.Nat.{mul-le}
-use Rattle.std.proofs.lemmas.List.{take_rest}
+use Rattle.std.proofs.lemmas.List.{take_all}
 use Rattle.kinds.specs.ArrivalKinds.{steps_count}
 use Rattle.kinds.specs.Numbers.{used}
 use Rattle.kinds.proofs.ArrivalLaws.{in_time_within}
@@ -25,5 +25,5 @@ pub returns : goal.returns
 returns c =
     put_together c.args.row.now c.args.ticks c.max-repeat.result c.used-entries.result.now c.max.result
     (omega arith)
-    (c.used-entries.ensures.value ∙ ap used (take_rest c.args.row.now 1))
+    (c.used-entries.ensures.value ∙ ap used (take_all 8 (drop 1 c.args.row.now) (omega (arith, length-drop 1 c.args.row.now))))
     (omega (arith, ap (λ n. length c.used-entries.result.now * n) c.from-whole.ensures))

@@ -5,4 +5,4 @@ use Rattle.arrivals.proofs.steps.Steps.new.Goals as goal
 pub returns-in-None : goal.returns-in-None
 returns-in-None c =
     let none = sym c.first_fault.ensures ∙ c.in-None.is in
-    (refl, none, stepped_tasks c.args.numbers.now none, stepped_plain c.args.numbers.now none)
+    ((refl, stepped_tasks c.args.numbers.now none, stepped_plain c.args.numbers.now none), none)
