@@ -1,5 +1,7 @@
 -- The columns of the sheet, filled task by task.
-use Rattle.std.proofs.Common.{◌≡◌, ℕ, ◌+◌, ◌<◌, ltb, List, [], ◌∷◌, ◌++◌, get_or, map, refl, ◌∙◌, ⊎_elim, arith}
+use Rattle.std.proofs.Common.{◌≡◌, ℕ, zero, suc, ◌+◌, ◌<◌, ltb, List, [], ◌∷◌, ◌++◌, get_or, map, refl, ◌∙◌, ⊎_elim, arith}
+use Rattle.std.specs.List.{slice_get}
+use Rattle.std.specs.Option.{option_map_or}
 use Rattle.std.proofs.lemmas.List.{length-append, map-append, get_or_append_left, get_or_past}
 use Rattle.std.proofs.lemmas.Bool.{cases_lt, lt-ltb, le-ltb}
 use Rattle.std.proofs.Math.Seq.{get_or-append_seam}
@@ -34,6 +36,12 @@ filled_at f n column filled k =
 -- the same of a column of rows, where one row more is kept
 pub filled_row : {T : Type 0} (pick : T → ℕ) (f : ℕ → ℕ) (n : ℕ) (rows : List T) (row : T) → Filled f n (map pick rows) → pick row ≡ f n → Filled f (n + 1) (map pick (rows ++ row ∷ []))
 filled_row pick f n rows row so_far is = rw (map-append pick rows (row ∷ [])) (filled_more f n (pick row) (map pick rows) so_far is)
+
+-- a look at a column of rows, by the row
+pub picked_at : {T : Type 0} (pick : T → ℕ) (rows : List T) (k : ℕ) → get_or (map pick rows) k 0 ≡ option_map_or pick (slice_get rows k) 0
+picked_at pick [] k = refl
+picked_at pick (row ∷ rows) zero = refl
+picked_at pick (row ∷ rows) (suc k) = picked_at pick rows k
 
 -- one task more that keeps its deadline
 pub kept_more : (m : Parts) (deadlines : List ℕ) (n : ℕ) (times : List Times) (t : Times) →

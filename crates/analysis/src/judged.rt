@@ -31,7 +31,7 @@ impl<P> Judged<P> {
         ensures { result ≡ slice_index (windows_of self.now) task }
     {
         match &self.sheet {
-            Ok(sheet) => sheet.times(task).window,
+            Ok(sheet) => sheet.window(task),
             Err(_) => 0,
         }
     }
@@ -41,7 +41,7 @@ impl<P> Judged<P> {
         ensures { result ≡ slice_index (bounds_of self.now) task }
     {
         match &self.sheet {
-            Ok(sheet) => sheet.times(task).bound,
+            Ok(sheet) => sheet.bound(task),
             Err(_) => 0,
         }
     }

@@ -2,7 +2,7 @@
 ghost use Rattle.std.specs.Prelude.{◌≡◌, slice_index};
 ghost use Rattle.analysis.specs.Judgement.{windows_on, bounds_on};
 
-use arrayvec::ArrayVec;
+use rows::per_task::PerTask;
 
 #[derive(Clone, Copy, Default)]
 pub struct Times {
@@ -10,22 +10,25 @@ pub struct Times {
     pub bound: u32,
 }
 
-// The times of up to sixteen tasks, in task order.
 #[derive(Drop)]
 pub struct Sheet {
-    pub(crate) times: ArrayVec<Times, 16>,
+    pub(crate) times: PerTask<Times>,
 }
 
 impl Sheet {
-    // The times of a task, which are 0 for one that the sheet does not have.
-    pub(crate) fn times(&self, task: u8) -> Times
-        ensures window { result.window ≡ slice_index (windows_on self.now) task }
-        ensures bound { result.bound ≡ slice_index (bounds_on self.now) task }
+    // The window of a task, or 0 for one that the sheet does not have.
+    #[tactic(auto, using(crate::proofs::Columns::picked_at))]
+    pub(crate) fn window(&self, task: u8) -> u32
+        ensures { result ≡ slice_index (windows_on self.now) task }
     {
-        self.times
-            .as_slice()
-            .get(usize::from(task))
-            .copied()
-            .unwrap_or_default()
+        self.times.get(task).map_or(0, |times| times.window)
+    }
+
+    // The bound of a task, or 0 for one that the sheet does not have.
+    #[tactic(auto, using(crate::proofs::Columns::picked_at))]
+    pub(crate) fn bound(&self, task: u8) -> u32
+        ensures { result ≡ slice_index (bounds_on self.now) task }
+    {
+        self.times.get(task).map_or(0, |times| times.bound)
     }
 }

@@ -11,6 +11,7 @@ use crate::books::{Book, Closed};
 use crate::totals::{TaskTotals, Totals};
 use arrayvec::ArrayVec;
 use model::parts::Parts;
+use rows::per_task::PerTask;
 use timeline::state::Timeline;
 
 impl<P: Parts> Book<P> {
@@ -38,5 +39,7 @@ fn totals(timeline: &Timeline) -> Totals
             longest: timeline.longest(task),
         });
     }
-    Totals { tasks }
+    Totals {
+        tasks: PerTask::from(tasks),
+    }
 }

@@ -2,7 +2,7 @@
 ghost use Rattle.std.specs.Prelude.{◌≡◌, slice_index};
 ghost use Rattle.book.specs.Columns.{finished_in, longest_in};
 
-use arrayvec::ArrayVec;
+use rows::per_task::PerTask;
 
 // The jobs of a task that were finished, and the longest time that one took, 0 if none.
 #[derive(Clone, Copy, Default)]
@@ -14,33 +14,23 @@ pub(crate) struct TaskTotals {
 // The totals of tasks 0 to 15.
 #[derive(Drop)]
 pub struct Totals {
-    pub(crate) tasks: ArrayVec<TaskTotals, 16>,
+    pub(crate) tasks: PerTask<TaskTotals>,
 }
 
 impl Totals {
     // How many jobs of the task were finished.
+    #[tactic(auto, using(analysis::proofs::Columns::picked_at))]
     pub fn finished(&self, task: u8) -> u32
         ensures { result ≡ slice_index (finished_in self.now) task }
     {
-        self.of(task).finished
+        self.tasks.get(task).map_or(0, |totals| totals.finished)
     }
 
     // The longest time that a job of the task took.
+    #[tactic(auto, using(analysis::proofs::Columns::picked_at))]
     pub fn longest(&self, task: u8) -> u32
         ensures { result ≡ slice_index (longest_in self.now) task }
     {
-        self.of(task).longest
-    }
-
-    // The totals of a task, which are 0 past the sixteenth.
-    fn of(&self, task: u8) -> TaskTotals
-        ensures finished { result.finished ≡ slice_index (finished_in self.now) task }
-        ensures longest { result.longest ≡ slice_index (longest_in self.now) task }
-    {
-        self.tasks
-            .as_slice()
-            .get(usize::from(task))
-            .copied()
-            .unwrap_or_default()
+        self.tasks.get(task).map_or(0, |totals| totals.longest)
     }
 }

@@ -42,10 +42,19 @@ impl<T: Copy + Default> PerTask<T> {
     {
         self.rows.get(usize::from(task)).copied()
     }
+
     // The rows of two tasks, if both have one.
     pub fn both(&self, task: u8, other: u8) -> Option<(T, T)>
         ensures { result ≡ option_zip (slice_get (kept self.now) task) (slice_get (kept self.now) other) }
     {
         self.get(task).zip(self.get(other))
+    }
+}
+
+impl<T> From<ArrayVec<T, MOST_TASKS>> for PerTask<T> {
+    ghost from_gives = { λ rows s. kept s ≡ rows.items };
+
+    fn from(rows: ArrayVec<T, MOST_TASKS>) -> PerTask<T> {
+        PerTask { rows }
     }
 }

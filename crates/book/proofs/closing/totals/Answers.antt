@@ -17,4 +17,4 @@ loop-task-preserved c =
 pub returns : goal.returns
 returns c =
     let last : c.loop-task.task ≡ 16 = omega (arith, c.loop-task-test.false, c.loop-task.auto) in
-    record { finished_so = rw last at c.loop-task.invariant.finished_so; longest_so = rw last at c.loop-task.invariant.longest_so }
+    rw c.from.ensures (record { finished_so = rw last at c.loop-task.invariant.finished_so; longest_so = rw last at c.loop-task.invariant.longest_so })
