@@ -12,6 +12,7 @@ use crate::totals::{TaskTotals, Totals};
 use arrayvec::ArrayVec;
 use model::parts::Parts;
 use rows::per_task::PerTask;
+use rows::rule::MOST_TASKS;
 use timeline::state::Timeline;
 
 impl<P: Parts> Book<P> {
@@ -33,7 +34,7 @@ fn totals(timeline: &Timeline) -> Totals
     ensures { Totalled (viewed (held_by timeline.entry.now)) result }
 {
     let mut tasks = ArrayVec::new();
-    for task in 0..16u8 {
+    for task in 0..MOST_TASKS as u8 {
         tasks.push(TaskTotals {
             finished: timeline.finished(task),
             longest: timeline.longest(task),

@@ -51,7 +51,7 @@ impl<T: Copy + Default> PerTask<T> {
     }
 }
 
-impl<T> From<ArrayVec<T, MOST_TASKS>> for PerTask<T> {
+impl<T: Copy + Default> From<ArrayVec<T, MOST_TASKS>> for PerTask<T> {
     ghost from_gives = { λ rows s. kept s ≡ rows.items };
 
     fn from(rows: ArrayVec<T, MOST_TASKS>) -> PerTask<T> {
