@@ -1,10 +1,10 @@
 // Separations: two releases of a task lie at least its separation apart.
-ghost use Rattle.std.specs.Prelude.{◌≡◌, ◌≤◌};
+ghost use Rattle.std.specs.Prelude.{◌≡◌, ◌≤◌, IsNone};
 ghost use Rattle.kinds.specs.ArrivalKinds.{rounded_up, separated, separations_fault};
 ghost use Rattle.kinds.proofs.ArrivalLaws.{separated_lawful};
+ghost use Rattle.kinds.proofs.RowLaws.{none_found};
 ghost use Rattle.rows.specs.Kept.{kept};
 ghost use Rattle.rows.specs.Making.{MakesUnlessFault};
-ghost use Rattle.kinds.specs.Unfaulted.{Unfaulted, no_fault};
 
 use crate::spacing::MOST_SPACING;
 use model::arrivals::Arrivals;
@@ -22,7 +22,7 @@ const LIMITS: Limits = Limits {
 pub struct Separations {
     rows: PerTask<u32>,
     // a separation of 0 would let jobs come without end
-    ghost faultless: { Unfaulted (separations_fault (kept rows)) },
+    ghost faultless: { IsNone (separations_fault (kept rows)) },
 }
 
 impl Separations {
@@ -38,7 +38,7 @@ impl Separations {
 impl Arrivals for Separations {
     ghost meaning = { λ s. separated (kept s.rows) };
 
-    ghost lawful = { λ s. separated_lawful (kept s.rows) (no_fault (separations_fault (kept s.rows)) s.faultless) };
+    ghost lawful = { λ s. separated_lawful (kept s.rows) (none_found (separations_fault (kept s.rows)) s.faultless) };
 
     fn tasks(&self) -> u8 {
         self.rows.tasks()

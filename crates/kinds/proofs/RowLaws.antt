@@ -1,6 +1,6 @@
 -- Rows of fields, one row to a task: a task that the part has has a row, any other has none, and no row of a making
 -- without fault is refused.
-use Rattle.std.proofs.Common.{◌≡◌, ℕ, zero, suc, ◌<◌, ◌≤◌, Bool, true, false, cond, List, [], ◌∷◌, length, Some, None, Option, refl, arith}
+use Rattle.std.proofs.Common.{◌≡◌, ℕ, zero, suc, ◌<◌, ◌≤◌, Bool, true, false, cond, List, [], ◌∷◌, length, Some, None, Option, IsNone, refl, arith}
 use Rattle.std.specs.List.{slice_get}
 use Rattle.std.proofs.lemmas.Option.{slice_get_past}
 use Rattle.std.proofs.lemmas.Bool.Decides.{nat_tests}
@@ -13,6 +13,11 @@ use Rattle.model.specs.declared.fault.Refusal.{Refusal}
 pub neither : {X : Type 0} (first later : Option X) → (first or_else later) ≡ None → (first ≡ None) × (later ≡ None)
 neither None later e = (refl, e)
 neither (Some f) later e = (e, cc)
+
+-- that there is none, as a ghost field can state it, and as the laws take it
+pub none_found : {X : Type 0} (found : Option X) → IsNone found → found ≡ None
+none_found None none = refl
+none_found (Some f) none = cc
 
 -- the row of a task that the part has
 pub row_of : {X : Type 0} (rows : List X) (k : ℕ) → k < length rows → (row : X) × (slice_get rows k ≡ Some row)

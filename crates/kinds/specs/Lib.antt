@@ -1,4 +1,3 @@
-pub mod Unfaulted
 pub mod Numbers
 pub mod ArrivalKinds
 pub mod OrderKinds

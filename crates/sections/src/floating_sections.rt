@@ -9,7 +9,7 @@ use kinds::FloatingTask;
 use model::fault::Refusal;
 use rows::rule::{Limits, RowRule};
 
-// A part that is made of a cost and a longest stretch for each task.
+// A part that is made of a cost and a longest stretch for each task. It means `floating_sections`, and `floating_fault` says when it is not made.
 pub type FloatingSections = ShapedSections<Floating>;
 
 pub struct Floating;

@@ -10,7 +10,7 @@ use crate::shaped_sections::ShapedSections;
 use model::fault::Refusal;
 use rows::rule::RowRule;
 
-// A part that is made of one cost for each task.
+// A part that is made of one cost for each task. It means `open_sections`, and `costs_fault` says when it is not made.
 pub type OpenSections = ShapedSections<Open>;
 
 pub struct Open;

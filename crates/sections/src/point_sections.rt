@@ -14,7 +14,7 @@ use kinds::numbers::used;
 use model::fault::Refusal;
 use rows::rule::RowRule;
 
-// A part that is made of up to eight segments for each task, with 0 behind the last.
+// A part that is made of up to eight segments for each task, with 0 behind the last. It means `points_sections`, and `points_fault` says when it is not made.
 pub type PointSections = ShapedSections<Points>;
 
 pub struct Points;

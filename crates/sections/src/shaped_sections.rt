@@ -1,7 +1,7 @@
 // Sections that are given by a row for each task.
-ghost use Rattle.std.specs.Prelude.{◌≡◌, Some, None};
+ghost use Rattle.std.specs.Prelude.{◌≡◌, IsNone};
 ghost use Rattle.kinds.specs.SectionKinds.{shaped, sections_fault};
-ghost use Rattle.kinds.specs.Unfaulted.{Unfaulted, no_fault};
+ghost use Rattle.kinds.proofs.RowLaws.{none_found};
 ghost use Rattle.kinds.proofs.SectionLaws.{made_lawful};
 ghost use Rattle.rows.specs.Kept.{kept};
 ghost use Rattle.rows.specs.Making.{MakesUnlessFault};
@@ -17,13 +17,13 @@ use std::marker::PhantomData;
 pub struct ShapedSections<K: RowShape> {
     rows: PerTask<K::Row>,
     // the laws hold of no other rows: a cost of 0 would leave no tick for the tail
-    ghost faultless: { Unfaulted (sections_fault K.refuses (kept rows)) },
+    ghost faultless: { IsNone (sections_fault K.refuses (kept rows)) },
 }
 
 // What a kind refuses about a row.
-struct Refused<K>(PhantomData<K>);
+struct KindRule<K>(PhantomData<K>);
 
-impl<K: RowShape> RowRule<K::Row> for Refused<K> {
+impl<K: RowShape> RowRule<K::Row> for KindRule<K> {
     ghost refuses = { λ s row. K.refuses row };
 
     fn refused(&self, row: &K::Row) -> Option<Refusal> {
@@ -36,7 +36,7 @@ impl<K: RowShape> ShapedSections<K> {
     pub fn new(rows: &[K::Row]) -> Result<Self, Fault>
         ensures { MakesUnlessFault result (sections_fault K.refuses rows.now) (λ s. kept s.rows ≡ rows.now) }
     {
-        let rows = PerTask::checked(&Refused::<K>(PhantomData), Part::Sections, rows)?;
+        let rows = PerTask::checked(&KindRule::<K>(PhantomData), Part::Sections, rows)?;
         Ok(ShapedSections { rows })
     }
 }
@@ -44,7 +44,7 @@ impl<K: RowShape> ShapedSections<K> {
 impl<K: RowShape> Sections for ShapedSections<K> {
     ghost meaning = { λ s. shaped K.shape (kept s.rows) };
 
-    ghost lawful = { λ s. made_lawful K.shape K.refuses K.lawful (kept s.rows) (no_fault (sections_fault K.refuses (kept s.rows)) s.faultless) };
+    ghost lawful = { λ s. made_lawful K.shape K.refuses K.lawful (kept s.rows) (none_found (sections_fault K.refuses (kept s.rows)) s.faultless) };
 
     fn tasks(&self) -> u8 {
         self.rows.tasks()
