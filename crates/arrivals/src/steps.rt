@@ -1,5 +1,5 @@
 // Steps: a row for each task says how the releases of a densest run fall, and after what time they repeat.
-ghost use Rattle.std.specs.Prelude.{◌≡◌, ◌+◌, ◌*◌, ◌/◌, ◌≤◌, max, length, drop, slice_index};
+ghost use Rattle.std.specs.Prelude.{◌≡◌, ◌+◌, ◌*◌, ◌/◌, ◌≤◌, IsNone, length, drop, slice_index};
 ghost use Rattle.kinds.specs.ArrivalKinds.{at_most, steps_count, steps_row, stepped, steps_refused, steps_fault};
 ghost use Rattle.kinds.specs.Numbers.{used};
 ghost use Rattle.kinds.specs.ArrivalKinds.{entries_in_order};
@@ -11,7 +11,7 @@ use crate::spacing::MOST_SPACING;
 use kinds::numbers::used;
 use model::arrivals::Arrivals;
 use model::fault::{Fault, NO_TASK, Part, Refusal};
-use rows::rule::{MOST_TASKS, RowRule, making_fault};
+use rows::rule::{RowRule, making_fault};
 
 // The numbers of a row: a repeat length, and eight entries with 0 behind the last.
 const ROW_WIDTH: usize = 9;
@@ -19,6 +19,8 @@ const ROW_WIDTH: usize = 9;
 #[derive(Clone, Copy)]
 pub struct Steps<'a> {
     numbers: &'a [u32],
+    // a repeat length of 0 would let jobs come without end
+    ghost faultless: { IsNone (steps_fault numbers.now) },
 }
 
 impl<'a> Steps<'a> {
@@ -42,7 +44,7 @@ impl<'a> Arrivals for Steps<'a> {
     ghost lawful = { λ s. stepped_lawful s.numbers.now };
 
     fn tasks(&self) -> u8 {
-        (self.numbers.len() / ROW_WIDTH).min(MOST_TASKS) as u8
+        (self.numbers.len() / ROW_WIDTH) as u8
     }
 
     fn count(&self, task: u8, length: u32) -> u64 {
@@ -108,16 +110,17 @@ fn row_of(numbers: &[u32], task: u8) -> &[u32; ROW_WIDTH]
     &rows[usize::from(task)]
 }
 
-// The releases that a row lets come in a length. The two maxima are for rows that no making takes.
+// The releases that a row lets come in a length.
 fn releases(row: &[u32; ROW_WIDTH], ticks: u32) -> u64
-    requires { 1 ≤ ticks }
-    ensures { result ≡ max 1 (steps_count (max 1 (slice_index row.now 0)) (used (drop 1 row.now)) ticks) }
+    requires some { 1 ≤ ticks }
+    requires repeats { 1 ≤ slice_index row.now 0 }
+    ensures { result ≡ steps_count (slice_index row.now 0) (used (drop 1 row.now)) ticks }
 {
-    let repeat = row[0].max(1);
+    let repeat = row[0];
     let entries = used(&row[1..]);
     let whole = u64::from((ticks - 1) / repeat);
     let rest = (ticks - 1) % repeat + 1;
-    (entries.len() as u64 * whole + in_time(rest, entries) as u64).max(1)
+    entries.len() as u64 * whole + in_time(rest, entries) as u64
 }
 
 // How many of the entries are at most so large.

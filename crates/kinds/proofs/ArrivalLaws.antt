@@ -181,3 +181,11 @@ module _ (xs : List ℕ) (none : steps_fault xs ≡ None) where
       let plain = row_plain (steps_row xs k) d (making_accepted steps_refused Arrivals _ rows_made k _ at) in
       let tasks = stepped_tasks in
       grind (arith, nat_tests)
+
+  -- and every repeat length is at least 1
+  pub stepped_repeats : (k : ℕ) → k < length xs / 9 → 1 ≤ get_or (steps_row xs k) 0 0
+  stepped_repeats k within =
+      let at = nth_cut (length xs / row_width) xs k within in
+      let kept = making_accepted steps_refused Arrivals _ rows_made k _ at in
+      let (spaced, _) = passed (between 1 most_spacing (get_or (steps_row xs k) 0 0)) _ _ kept in
+      grind (arith, nat_tests)
