@@ -65,11 +65,7 @@ fn print_sheet<P>(rt: &HostRuntime, table: &Judged<P>) -> io::Result<()> {
 }
 
 // Obeys the record and prints what came of each command, until nothing can be read or the record is at its end.
-fn follow<P: Parts>(
-    rt: &HostRuntime,
-    book: &mut Book<P>,
-    record: &[u8],
-) -> io::Result<()>
+fn follow<P: Parts>(rt: &HostRuntime, book: &mut Book<P>, record: &[u8]) -> io::Result<()>
     ensures table { book.new.table ≡ book.old.table }
     ensures day { GoesOn (verdict_of book.old.table) (P.meaning (parts_of book.old)) (state_of book.old) (state_of book.new) }
 {
