@@ -30,20 +30,14 @@ impl<P> Judged<P> {
     pub fn window(&self, task: u8) -> u32
         ensures { result ≡ slice_index (windows_of self.now) task }
     {
-        match &self.sheet {
-            Ok(sheet) => sheet.window(task),
-            Err(_) => 0,
-        }
+        self.sheet.as_ref().map_or(0, |sheet| sheet.window(task))
     }
 
     // The bound of a task, or 0 for one that the sheet does not have.
     pub fn bound(&self, task: u8) -> u32
         ensures { result ≡ slice_index (bounds_of self.now) task }
     {
-        match &self.sheet {
-            Ok(sheet) => sheet.bound(task),
-            Err(_) => 0,
-        }
+        self.sheet.as_ref().map_or(0, |sheet| sheet.bound(task))
     }
 
     // The three parts, lent.
