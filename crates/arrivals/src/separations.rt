@@ -56,6 +56,5 @@ fn rounded(length: u32, separation: u32) -> u64
     requires { 1 ≤ separation }
     ensures { result ≡ rounded_up length separation }
 {
-    let separation = u64::from(separation);
-    (u64::from(length) + (separation - 1)) / separation
+    u64::from(length.div_ceil(separation))
 }

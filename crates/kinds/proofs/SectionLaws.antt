@@ -1,5 +1,5 @@
 -- The listed kinds of sections keep the laws of sections: it is enough that the shape of each task's row keeps them.
-use Rattle.std.proofs.Common.{◌≡◌, ℕ, zero, suc, ◌+◌, ◌-◌, ◌<◌, ◌≤◌, true, false, List, [], ◌∷◌, length, get_or, take, Some, None, sum, Option, arith}
+use Rattle.std.proofs.Common.{◌≡◌, ℕ, zero, suc, ◌+◌, ◌≤◌, false, List, [], ◌∷◌, length, get_or, take, Some, None, sum, Option, arith}
 use Rattle.std.specs.List.{slice_get}
 use Rattle.std.proofs.lemmas.List.Sums.{sum_by-cons, sum_by-take-le}
 use Rattle.std.proofs.lemmas.Bool.Decides.{nat_tests}
@@ -8,21 +8,9 @@ use Rattle.model.specs.Sections.{LawfulSections, most_cost}
 use Rattle.model.specs.declared.fault.Part.TheVariants.{Sections}
 use Rattle.model.specs.declared.fault.Refusal.{Refusal}
 use Rattle.kinds.specs.Numbers.{used}
-use Rattle.kinds.specs.SectionKinds.{Shape, shaped, sections_fault, open_shape, shut_shape, floating_shape, points_shape, largest, final, open_sections, shut_sections, floating_sections, points_sections, costs_fault, floating_refused, floating_fault, segments_refused, points_refused, points_fault}
+use Rattle.kinds.specs.SectionKinds.{Shape, LawfulShape, shaped, sections_fault, open_shape, shut_shape, floating_shape, points_shape, largest, final, open_sections, shut_sections, floating_sections, points_sections, costs_fault, floating_refused, floating_fault, segments_refused, points_refused, points_fault}
 use Rattle.kinds.specs.declared.FloatingTask.{FloatingTask}
 use Rattle.kinds.proofs.RowLaws.{row_of, for_absent, making_accepted, inside, neither}
-
--- the laws of sections, of the shape of one task
-pub record LawfulShape (shape : Shape) : Type 0 where
-  pub tail_positive : 1 ≤ shape.tail
-  pub tail_within : shape.tail ≤ shape.cost
-  pub longest_positive : 1 ≤ shape.longest
-  pub longest_within : shape.longest ≤ shape.cost
-  pub cost_bounded : shape.cost ≤ most_cost
-  pub hold_short : (r s p : ℕ) → shape.hold r s p ≡ true → s < shape.longest
-  pub hold_unfinished : (r s p : ℕ) → shape.hold r s p ≡ true → r < shape.cost
-  pub open_before_tail : (r s p : ℕ) → shape.opens r s p ≡ true → r ≤ shape.cost - shape.tail
-  pub finish_within : (r s p : ℕ) → shape.done r s p ≡ true → r ≤ shape.cost
 
 -- Sections of lawful shapes keep the laws.
 pub shaped_lawful : {X : Type 0} (shape : X → Shape) (rows : List X) → ((k : ℕ) (row : X) → slice_get rows k ≡ Some row → LawfulShape (shape row)) → LawfulSections (shaped shape rows)

@@ -1,6 +1,6 @@
 -- What the listed kinds of sections mean, and what their makings refuse.
 -- Cited by the crate `sections` and by the reference cases.
-use Rattle.std.specs.Prelude.{ℕ, zero, suc, max, Bool, false, cond, ◌&&◌, List, [], ◌∷◌, length, take, Some, None, sum, Option, ◌==◌, nat_le, nat_lt, slice_index}
+use Rattle.std.specs.Prelude.{◌≡◌, ℕ, zero, suc, ◌-◌, ◌<◌, ◌≤◌, max, Bool, true, false, cond, ◌&&◌, List, [], ◌∷◌, length, take, Some, None, sum, Option, ◌==◌, nat_le, nat_lt, slice_index}
 use Rattle.kinds.specs.Numbers.{used}
 use Rattle.kinds.specs.declared.FloatingTask.{FloatingTask}
 use Rattle.model.specs.Choice.{◌or_else◌}
@@ -19,6 +19,18 @@ pub record Shape : Type 0 where
   pub hold : ℕ → ℕ → ℕ → Bool
   pub opens : ℕ → ℕ → ℕ → Bool
   pub done : ℕ → ℕ → ℕ → Bool
+
+-- the laws of sections, of the shape of one task
+pub record LawfulShape (shape : Shape) : Type 0 where
+  pub tail_positive : 1 ≤ shape.tail
+  pub tail_within : shape.tail ≤ shape.cost
+  pub longest_positive : 1 ≤ shape.longest
+  pub longest_within : shape.longest ≤ shape.cost
+  pub cost_bounded : shape.cost ≤ most_cost
+  pub hold_short : (r s p : ℕ) → shape.hold r s p ≡ true → s < shape.longest
+  pub hold_unfinished : (r s p : ℕ) → shape.hold r s p ≡ true → r < shape.cost
+  pub open_before_tail : (r s p : ℕ) → shape.opens r s p ≡ true → r ≤ shape.cost - shape.tail
+  pub finish_within : (r s p : ℕ) → shape.done r s p ≡ true → r ≤ shape.cost
 
 -- the part whose tasks have these shapes, each given by the row of its task
 abbrev pub shaped : {X : Type 0} → (X → Shape) → List X → SectionsMeaning

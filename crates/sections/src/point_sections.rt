@@ -85,6 +85,7 @@ fn refused_behind(numbers: &[u32]) -> Option<Refusal>
     })
 }
 
+// The segments together are a cost.
 fn refused_total(segments: &[u32]) -> Option<Refusal>
     requires { length segments.now ≤ 8 }
     ensures { result ≡ outside 1 most_cost (sum segments.now) }

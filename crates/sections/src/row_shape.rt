@@ -1,7 +1,6 @@
 // What the row of one task says of its jobs: the one thing in which the kinds of sections differ.
 ghost use Rattle.std.specs.Prelude.{◌≡◌, None, Option};
-ghost use Rattle.kinds.specs.SectionKinds.{Shape};
-ghost use Rattle.kinds.proofs.SectionLaws.{LawfulShape};
+ghost use Rattle.kinds.specs.SectionKinds.{Shape, LawfulShape};
 ghost use Rattle.model.specs.declared.fault.Refusal.{Refusal as Refused};
 
 use model::fault::Refusal;
