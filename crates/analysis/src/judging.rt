@@ -1,5 +1,6 @@
 // Judging a draft.
 ghost use Rattle.std.specs.Prelude.{◌≡◌, ◌↔◌, Some, None, MatchResult};
+ghost use Rattle.std.specs.Result.{result_err};
 ghost use Rattle.model.specs.Choice.{◌or_else◌};
 ghost use Rattle.model.specs.Lighter.{NoWorseThanHeavier};
 ghost use Rattle.model.specs.Sealed.{SealedSheet};
@@ -16,7 +17,7 @@ use model::fault::{Fault, NO_TASK, Part, Refusal};
 use model::order::Order;
 use model::parts::Parts;
 use model::sections::Sections;
-use rows::rule::{Limits, making_fault};
+use rows::rule::{Limits, check};
 
 const DEADLINES: Limits = Limits {
     low: 1,
@@ -42,28 +43,26 @@ impl<P: Parts> Draft<P> {
             (λ s. JudgedSo (drafted P.meaning self.now) None (windows_on s) (bounds_on s))
             (λ f. verdict (drafted P.meaning self.now) ≡ Some f) }
     {
-        if let Some(fault) = self.misfit() {
-            return Err(fault);
-        }
+        self.check()?;
         sheets::sheet(&self.parts, self.deadlines.as_slice())
     }
 
-    // A fault of the size or of a deadline.
-    fn misfit(&self) -> Option<Fault>
-        ensures { result ≡ (size_fault (drafted P.meaning self.now) or_else deadlines_fault (drafted P.meaning self.now)) }
+    // Whether the size and the deadlines are without fault.
+    fn check(&self) -> Result<(), Fault>
+        ensures { result_err result ≡ (size_fault (drafted P.meaning self.now) or_else deadlines_fault (drafted P.meaning self.now)) }
     {
         let tasks = self.deadlines.len();
         if usize::from(self.parts.arrivals().tasks()) != tasks
             || usize::from(self.parts.order().tasks()) != tasks
             || usize::from(self.parts.sections().tasks()) != tasks
         {
-            return Some(Fault {
+            return Err(Fault {
                 refusal: Refusal::Size,
                 part: Part::Table,
                 task: NO_TASK,
             });
         }
         // no deadlines, or more than sixteen, are a fault of size here
-        making_fault(&DEADLINES, Part::Table, self.deadlines.as_slice())
+        check(&DEADLINES, Part::Table, self.deadlines.as_slice())
     }
 }

@@ -8,7 +8,7 @@ use crate::spacing::MOST_SPACING;
 use model::arrivals::Arrivals;
 use model::fault::{Fault, Part};
 use rows::column::entry;
-use rows::rule::{Limits, making_fault};
+use rows::rule::{Limits, check};
 
 // A release may also come in time.
 const LIMITS: Limits = Limits {
@@ -27,10 +27,8 @@ impl Delays {
     pub fn new(ticks: &[u32; 16]) -> Result<Delays, Fault>
         ensures { MakesUnlessFault result (delays_fault ticks.now) (λ s. s.ticks ≡ ticks.now) }
     {
-        match making_fault(&LIMITS, Part::Arrivals, ticks) {
-            None => Ok(Delays { ticks: *ticks }),
-            Some(fault) => Err(fault),
-        }
+        check(&LIMITS, Part::Arrivals, ticks)?;
+        Ok(Delays { ticks: *ticks })
     }
 }
 

@@ -1,5 +1,6 @@
 // Steps: a row for each task says how the releases of a densest run fall, and after what time they repeat.
 ghost use Rattle.std.specs.Prelude.{◌≡◌, ◌+◌, ◌*◌, ◌/◌, ◌≤◌, IsNone, length, drop, slice_index};
+ghost use Rattle.std.specs.Result.{result_err};
 ghost use Rattle.kinds.specs.ArrivalKinds.{at_most, steps_count, steps_row, stepped, steps_refused, steps_fault};
 ghost use Rattle.kinds.specs.Numbers.{used};
 ghost use Rattle.kinds.specs.ArrivalKinds.{entries_in_order};
@@ -11,7 +12,7 @@ use crate::spacing::MOST_SPACING;
 use kinds::numbers::used;
 use model::arrivals::Arrivals;
 use model::fault::{Fault, NO_TASK, Part, Refusal};
-use rows::rule::{RowRule, making_fault};
+use rows::rule::{RowRule, check};
 
 // The numbers of a row: a repeat length, and eight entries with 0 behind the last.
 const ROW_WIDTH: usize = 9;
@@ -31,10 +32,8 @@ impl<'a> Steps<'a> {
             × ((stepped numbers.now).tasks ≡ length numbers.now / 9)
             × PlainSteps numbers.now) }
     {
-        match first_fault(numbers) {
-            None => Ok(Steps { numbers }),
-            Some(fault) => Err(fault),
-        }
+        check_numbers(numbers)?;
+        Ok(Steps { numbers })
     }
 }
 
@@ -56,15 +55,15 @@ impl<'a> Arrivals for Steps<'a> {
     }
 }
 
-// Why no part is made of the numbers: their number first, then the first row at fault.
-fn first_fault(numbers: &[u32]) -> Option<Fault>
-    ensures { result ≡ steps_fault numbers.now }
+// Whether a part can be made of the numbers: how many there are first, then the first row at fault.
+fn check_numbers(numbers: &[u32]) -> Result<(), Fault>
+    ensures { result_err result ≡ steps_fault numbers.now }
 {
     let (rows, rest) = numbers.as_chunks::<ROW_WIDTH>();
     if rest.is_empty() {
-        making_fault(&StepsRow, Part::Arrivals, rows)
+        check(&StepsRow, Part::Arrivals, rows)
     } else {
-        Some(Fault {
+        Err(Fault {
             refusal: Refusal::Size,
             part: Part::Arrivals,
             task: NO_TASK,

@@ -6,7 +6,7 @@ ghost use Rattle.model.specs.Rows.{making_fault};
 ghost use Rattle.rows.specs.Kept.{kept};
 ghost use Rattle.rows.specs.Making.{MakesUnlessFault};
 
-use crate::rule::{MOST_TASKS, RowRule, making_fault};
+use crate::rule::{MOST_TASKS, RowRule, check};
 use arrayvec::ArrayVec;
 use model::fault::{Fault, Part};
 
@@ -20,9 +20,7 @@ impl<T: Copy + Default> PerTask<T> {
     pub fn checked<C: RowRule<T>>(rule: &C, part: Part, rows: &[T]) -> Result<PerTask<T>, Fault>
         ensures { MakesUnlessFault result (making_fault (C.RowRule.refuses rule.now) part rows.now) (λ s. kept s ≡ rows.now) }
     {
-        if let Some(fault) = making_fault(rule, part, rows) {
-            return Err(fault);
-        }
+        check(rule, part, rows)?;
         // Rows without fault are not too many.
         let Ok(rows) = ArrayVec::try_from(rows) else {
             unreachable!()

@@ -1,5 +1,6 @@
 // What is refused about a row, and the first row at fault.
 ghost use Rattle.std.specs.Prelude.{◌≡◌, ◌≤◌, length, Option};
+ghost use Rattle.std.specs.Result.{result_err};
 ghost use Rattle.model.specs.Rows.{outside, rows_fault, making_fault};
 ghost use Rattle.model.specs.declared.fault.Refusal.{Refusal as Refused};
 
@@ -35,33 +36,33 @@ impl RowRule<u32> for Limits {
     }
 }
 
-// Why no part is made of the rows: their number first, then the first row at fault.
-pub fn making_fault<T, C: RowRule<T>>(rule: &C, part: Part, rows: &[T]) -> Option<Fault>
-    ensures { result ≡ making_fault (C.RowRule.refuses rule.now) part rows.now }
+// Whether a part can be made of the rows: their number first, then the first row at fault.
+pub fn check<T, C: RowRule<T>>(rule: &C, part: Part, rows: &[T]) -> Result<(), Fault>
+    ensures { result_err result ≡ making_fault (C.RowRule.refuses rule.now) part rows.now }
 {
     if rows.is_empty() || rows.len() > MOST_TASKS {
-        return Some(Fault {
+        return Err(Fault {
             refusal: Refusal::Size,
             part,
             task: NO_TASK,
         });
     }
-    first_fault(rule, part, rows)
+    check_each(rule, part, rows)
 }
 
-fn first_fault<T, C: RowRule<T>>(rule: &C, part: Part, rows: &[T]) -> Option<Fault>
+fn check_each<T, C: RowRule<T>>(rule: &C, part: Part, rows: &[T]) -> Result<(), Fault>
     requires { length rows.now ≤ 16 }
-    ensures { result ≡ rows_fault (C.RowRule.refuses rule.now) part 0 rows.now }
+    ensures { result_err result ≡ rows_fault (C.RowRule.refuses rule.now) part 0 rows.now }
 {
     for (task, row) in rows.iter().enumerate() {
         if let Some(refusal) = rule.refused(row) {
             let task = task as u8;
-            return Some(Fault {
+            return Err(Fault {
                 refusal,
                 part,
                 task,
             });
         }
     }
-    None
+    Ok(())
 }

@@ -1,6 +1,6 @@
 use Rattle.std.proofs.Common.{◌≡◌, drop}
 use Rattle.model.specs.Rows.{rows_fault}
-use Rattle.rows.proofs.rule.first_fault.Given as goal
+use Rattle.rows.proofs.rule.check_each.Given as goal
 
 abbrev pub invariant-loop-task : goal.invariant-loop-task
 invariant-loop-task g l =
