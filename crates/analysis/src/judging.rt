@@ -56,11 +56,7 @@ impl<P: Parts> Draft<P> {
             || usize::from(self.parts.order().tasks()) != tasks
             || usize::from(self.parts.sections().tasks()) != tasks
         {
-            return Err(Fault {
-                refusal: Refusal::Size,
-                part: Part::Table,
-                task: NO_TASK,
-            });
+            return Err(Fault::new(Refusal::Size, Part::Table, NO_TASK));
         }
         // no deadlines, or more than sixteen, are a fault of size here
         check(&DEADLINES, Part::Table, self.deadlines.as_slice())

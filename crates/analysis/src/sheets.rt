@@ -1,8 +1,6 @@
 // The sheet of a table: the window and the bound of each task, as long as every task keeps its deadline.
 ghost use Rattle.std.specs.Prelude.{◌≡◌, ◌≤◌, length, Some, MatchResult};
-ghost use Rattle.model.specs.Faults.{fault};
 ghost use Rattle.model.specs.Tables.{missed};
-ghost use Rattle.model.specs.declared.fault.Part.TheVariants.{Table};
 ghost use Rattle.analysis.specs.Judgement.{windows_on, bounds_on};
 ghost use Rattle.analysis.specs.Sheets.{Timely, KeptSo, first_missed};
 
@@ -36,22 +34,11 @@ fn times_in<P: Parts>(parts: &P, task: u8, deadline: u32) -> Result<Times, Fault
         (λ f. missed (P.meaning parts.now) task deadline ≡ Some f) }
 {
     let Some(window) = bounds::window(parts, task) else {
-        return Err(missed(Refusal::Overload, task));
+        return Err(Fault::new(Refusal::Overload, Part::Table, task));
     };
     let bound = bounds::bound(parts, task, window);
     if bound > deadline {
-        return Err(missed(Refusal::Late, task));
+        return Err(Fault::new(Refusal::Late, Part::Table, task));
     }
     Ok(Times { window, bound })
-}
-
-// Why a task misses its deadline.
-fn missed(refusal: Refusal, task: u8) -> Fault
-    ensures { result ≡ fault refusal Table task }
-{
-    Fault {
-        refusal,
-        part: Part::Table,
-        task,
-    }
 }

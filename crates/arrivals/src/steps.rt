@@ -63,11 +63,7 @@ fn check_numbers(numbers: &[u32]) -> Result<(), Fault>
     if rest.is_empty() {
         check(&StepsRow, Part::Arrivals, rows)
     } else {
-        Err(Fault {
-            refusal: Refusal::Size,
-            part: Part::Arrivals,
-            task: NO_TASK,
-        })
+        Err(Fault::new(Refusal::Size, Part::Arrivals, NO_TASK))
     }
 }
 

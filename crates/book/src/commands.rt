@@ -1,8 +1,6 @@
 // What a book answers: to a command, and to the questions about the time and about a job.
 ghost use Rattle.std.specs.Prelude.{◌≡◌, List, Some, None, sum_by};
 ghost use Rattle.std.specs.Result.{result_err};
-ghost use Rattle.model.specs.Faults.{fault, no_task};
-ghost use Rattle.model.specs.declared.fault.Part.TheVariants as part;
 ghost use Rattle.days.specs.Days.{Event, event_ticks, Led, Followed};
 ghost use Rattle.days.specs.Rules.{answer};
 ghost use Rattle.analysis.specs.Judgement.{verdict_of};
@@ -23,7 +21,7 @@ impl<P: Parts> Book<P> {
         ensures followed { Followed (verdict_of self.old.table) (P.meaning (parts_of self.old)) (state_of self.old) (Some command) (result_err result) (state_of self.new) }
     {
         match self.table.verdict() {
-            Some(_) => Err(refusal(Refusal::Unfit)),
+            Some(_) => Err(Fault::new(Refusal::Unfit, Part::Book, NO_TASK)),
             None => self.timeline.obey(self.table.parts(), command),
         }
     }
@@ -41,8 +39,8 @@ impl<P: Parts> Book<P> {
         ensures { Some result ≡ answer (verdict_of self.now.table) (P.meaning (parts_of self.now)) (state_of self.now) None }
     {
         match self.table.verdict() {
-            Some(_) => refusal(Refusal::Unfit),
-            None => refusal(Refusal::Unread),
+            Some(_) => Fault::new(Refusal::Unfit, Part::Book, NO_TASK),
+            None => Fault::new(Refusal::Unread, Part::Book, NO_TASK),
         }
     }
 }
@@ -53,16 +51,5 @@ impl<P> Book<P> {
         ensures { result ≡ nth_job (state_of self.now).jobs n }
     {
         self.timeline.jobs().get(n).map(JobView::from)
-    }
-}
-
-// A refusal of the book that is about no task.
-fn refusal(refusal: Refusal) -> Fault
-    ensures { result ≡ fault refusal part.Book no_task }
-{
-    Fault {
-        refusal,
-        part: Part::Book,
-        task: NO_TASK,
     }
 }

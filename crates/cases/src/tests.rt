@@ -6,9 +6,5 @@ mod tables;
 use model::fault::{Fault, Part, Refusal};
 
 fn fault(refusal: Refusal, part: Part, task: u8) -> Option<Fault> {
-    Some(Fault {
-        refusal,
-        part,
-        task,
-    })
+    Some(Fault::new(refusal, part, task))
 }

@@ -1,6 +1,6 @@
 // Why a call refuses: number, part and task.
 ghost use Rattle.std.specs.Prelude.{◌≡◌, Some};
-ghost use Rattle.model.specs.Faults.{number, word, part_number, part_word};
+ghost use Rattle.model.specs.Faults.{number, word, part_number, part_word, fault};
 ghost use Rattle.model.specs.Shown.{shown_fault};
 
 use std::fmt;
@@ -98,6 +98,18 @@ impl Part {
             Part::Sections => "sections",
             Part::Table => "table",
             Part::Book => "book",
+        }
+    }
+}
+
+impl Fault {
+    pub fn new(refusal: Refusal, part: Part, task: u8) -> Fault
+        ensures { result ≡ fault refusal part task }
+    {
+        Fault {
+            refusal,
+            part,
+            task,
         }
     }
 }

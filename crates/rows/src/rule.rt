@@ -41,11 +41,7 @@ pub fn check<T, C: RowRule<T>>(rule: &C, part: Part, rows: &[T]) -> Result<(), F
     ensures { result_err result ≡ making_fault (C.RowRule.refuses rule.now) part rows.now }
 {
     if rows.is_empty() || rows.len() > MOST_TASKS {
-        return Err(Fault {
-            refusal: Refusal::Size,
-            part,
-            task: NO_TASK,
-        });
+        return Err(Fault::new(Refusal::Size, part, NO_TASK));
     }
     check_each(rule, part, rows)
 }
@@ -56,12 +52,7 @@ fn check_each<T, C: RowRule<T>>(rule: &C, part: Part, rows: &[T]) -> Result<(), 
 {
     for (task, row) in rows.iter().enumerate() {
         if let Some(refusal) = rule.refused(row) {
-            let task = task as u8;
-            return Err(Fault {
-                refusal,
-                part,
-                task,
-            });
+            return Err(Fault::new(refusal, part, task as u8));
         }
     }
     Ok(())

@@ -2,8 +2,6 @@
 ghost use Rattle.std.specs.Prelude.{◌≡◌};
 ghost use Rattle.std.specs.Result.{result_err};
 ghost use Rattle.model.specs.Analysis.{Parts as Meanings};
-ghost use Rattle.model.specs.Faults.{fault};
-ghost use Rattle.model.specs.declared.fault.Part.TheVariants.{Book};
 ghost use Rattle.days.specs.Rules.{new_state};
 ghost use Rattle.days.specs.declared.command.Command.TheVariants.{Idle};
 ghost use Rattle.timeline.specs.Obeyed.{Obeyed};
@@ -41,31 +39,20 @@ impl Timeline {
         ensures { (m : Meanings) → Obeyed m (Idle ticks) (held_by self.entry.now) (held_by self.exit.now) (result_err result) }
     {
         if ticks == 0 {
-            return Err(refusal(Refusal::Unread, NO_TASK));
+            return Err(Fault::new(Refusal::Unread, Part::Book, NO_TASK));
         }
         let end = self.now + u32::from(ticks);
         if end > LAST_TICK {
-            return Err(refusal(Refusal::Full, NO_TASK));
+            return Err(Fault::new(Refusal::Full, Part::Book, NO_TASK));
         }
         let jobs = self.jobs.as_slice();
         if any_held(jobs) {
-            return Err(refusal(Refusal::Held, NO_TASK));
+            return Err(Fault::new(Refusal::Held, Part::Book, NO_TASK));
         }
         if any_unfinished(jobs) {
-            return Err(refusal(Refusal::Behind, NO_TASK));
+            return Err(Fault::new(Refusal::Behind, Part::Book, NO_TASK));
         }
         self.now = end;
         Ok(())
-    }
-}
-
-// A refusal of the book.
-pub(crate) fn refusal(refusal: Refusal, task: u8) -> Fault
-    ensures { result ≡ fault refusal Book task }
-{
-    Fault {
-        refusal,
-        part: Part::Book,
-        task,
     }
 }

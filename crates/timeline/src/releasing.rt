@@ -7,13 +7,12 @@ ghost use Rattle.days.specs.declared.command.Command.TheVariants.{Release};
 ghost use Rattle.timeline.specs.Obeyed.{Obeyed};
 ghost use Rattle.timeline.specs.Timelines.{held_by};
 
-use crate::obeying::refusal;
 use crate::state::Timeline;
 use crate::storage::MOST_JOBS;
 use days::job::{Job, JobState};
 use jobs::crowds::is_crowded;
 use model::arrivals::Arrivals;
-use model::fault::{Fault, NO_TASK, Refusal};
+use model::fault::{Fault, NO_TASK, Part, Refusal};
 use model::parts::Parts;
 
 impl Timeline {
@@ -21,13 +20,13 @@ impl Timeline {
         ensures { Obeyed (P.meaning parts.now) (Release task) (held_by self.entry.now) (held_by self.exit.now) (result_err result) }
     {
         if task >= parts.arrivals().tasks() {
-            return Err(refusal(Refusal::Unread, NO_TASK));
+            return Err(Fault::new(Refusal::Unread, Part::Book, NO_TASK));
         }
         if self.jobs.len() >= MOST_JOBS {
-            return Err(refusal(Refusal::Full, task));
+            return Err(Fault::new(Refusal::Full, Part::Book, task));
         }
         if self.is_crowded(parts, task) {
-            return Err(refusal(Refusal::Crowd, task));
+            return Err(Fault::new(Refusal::Crowd, Part::Book, task));
         }
         let job = released_at(task, self.now);
         self.jobs.push_reserved(job);

@@ -7,7 +7,6 @@ ghost use Rattle.timeline.specs.Obeyed.{Obeyed, obstacle};
 ghost use Rattle.timeline.specs.Past.{latest};
 ghost use Rattle.timeline.specs.Timelines.{held_by};
 
-use crate::obeying::refusal;
 use crate::permission::{is_allowed, rival};
 use crate::state::{LAST_TICK, Timeline};
 use crate::tick::serve;
@@ -15,7 +14,7 @@ use days::command::Mark;
 use days::job::Job;
 use jobs::questions::first_pending;
 use model::arrivals::Arrivals;
-use model::fault::{Fault, NO_TASK, Refusal};
+use model::fault::{Fault, NO_TASK, Part, Refusal};
 use model::parts::Parts;
 
 impl Timeline {
@@ -23,16 +22,16 @@ impl Timeline {
         ensures { Obeyed (P.meaning parts.now) (Serve mark task) (held_by self.entry.now) (held_by self.exit.now) (result_err result) }
     {
         if task >= parts.arrivals().tasks() {
-            return Err(refusal(Refusal::Unread, NO_TASK));
+            return Err(Fault::new(Refusal::Unread, Part::Book, NO_TASK));
         }
         if self.now >= LAST_TICK {
-            return Err(refusal(Refusal::Full, task));
+            return Err(Fault::new(Refusal::Full, Part::Book, task));
         }
         let Some(place) = first_pending(self.jobs.as_slice(), task) else {
-            return Err(refusal(Refusal::Absent, task));
+            return Err(Fault::new(Refusal::Absent, Part::Book, task));
         };
         if let Some(reason) = self.obstacle(parts, mark, &self.jobs[place]) {
-            return Err(refusal(reason, task));
+            return Err(Fault::new(reason, Part::Book, task));
         }
         self.now += 1;
         let job = &mut self.jobs[place];

@@ -13,7 +13,7 @@ returns-in-Some g c =
     let m = g.P.Parts.meaning (parts_of book) in
     record {
       table = refl;
-      followed = rw c.refusal.ensures (followed_unfit (verdict_of book.table) m (held_by book.timeline) (Some c.args.command) c.in-Some.field-0 (sym c.verdict.ensures ∙ c.in-Some.is));
+      followed = rw c.new.ensures (followed_unfit (verdict_of book.table) m (held_by book.timeline) (Some c.args.command) c.in-Some.field-0 (sym c.verdict.ensures ∙ c.in-Some.is));
     }
 
 pub returns-in-None : goal.returns-in-None

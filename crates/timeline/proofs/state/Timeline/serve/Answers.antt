@@ -10,7 +10,7 @@ returns-in_default g c =
     let known : c.args.task < tasks m = omega (arith, c.if-task-tasks.false, c.tasks.ensures, ap (λ a. a.tasks) c.arrivals.ensures) in
     let none = rw c.as_slice.ensures.value at c.in_default.ensures in
     let absent = serve_absent m (held_by c.args.self.now) c.args.mark c.args.task known c.if-self-ge-LAST_TICK.false none in
-    record { answer = rw (c.refusal-in_default.ensures) absent; left = refl }
+    record { answer = rw (c.new-in_default.ensures) absent; left = refl }
 
 pub returns-in-Some-obstacle : goal.returns-in-Some-obstacle
 returns-in-Some-obstacle g c =
@@ -18,7 +18,7 @@ returns-in-Some-obstacle g c =
     let known : c.args.task < tasks m = omega (arith, c.if-task-tasks.false, c.tasks.ensures, ap (λ a. a.tasks) c.arrivals.ensures) in
     let place = rw c.as_slice.ensures.value at c.in-Some.ensures in
     let answer = serve_answer m (held_by c.args.self.now) c.args.mark c.args.task known c.if-self-ge-LAST_TICK.false c.in-Some.place c.index.result.now place c.index.ensures in
-    record { answer = rw (c.refusal-in-Some-obstacle.ensures) (rw (← c.in-Some-obstacle.ensures) at answer); left = refl }
+    record { answer = rw (c.new-in-Some-obstacle.ensures) (rw (← c.in-Some-obstacle.ensures) at answer); left = refl }
 
 pub returns : goal.returns
 returns g c =
