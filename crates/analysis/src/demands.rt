@@ -1,4 +1,5 @@
-// The two demands of the analysis: what fills a busy window, and what a job in it needs.
+// The two demands of the analysis: what fills a busy window, and what a job in it needs. Their loops differ in which tasks
+// count and in the length that each is asked for, and so in all but the sum.
 ghost use Rattle.std.specs.Prelude.{◌≡◌, ◌+◌, ◌^◌, ◌≤◌};
 ghost use Rattle.model.specs.Analysis.{counted_work, others_work};
 ghost use Rattle.model.specs.Order.{within};

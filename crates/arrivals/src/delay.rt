@@ -16,7 +16,7 @@ const LIMITS: Limits = Limits {
     high: MOST_SPACING,
 };
 
-// How late the releases of each task can come.
+// How late the releases of each task can come. There are always sixteen numbers, so no length stands beside them.
 #[derive(Clone, Copy)]
 pub struct Delays {
     ticks: [u32; 16],

@@ -8,7 +8,7 @@ pub struct JobView {
     pub task: u8,
     pub release: u32,
     pub state: JobState,
-    // 0 until the job is finished
+    // 0 until the job is finished, as the answer about a job is set
     pub took: u32,
 }
 

@@ -69,6 +69,7 @@ fn follow<P: Parts>(rt: &HostRuntime, book: &mut Book<P>, record: &[u8]) -> io::
     ensures table { book.new.table ≡ book.old.table }
     ensures day { GoesOn (verdict_of book.old.table) (P.meaning (parts_of book.old)) (state_of book.old) (state_of book.new) }
 {
+    // the answer to a command says where the next one stands, so that no iterator over the bytes would do
     let mut place = 0;
     while place < record.len() {
         let letter = letter(record[place]);

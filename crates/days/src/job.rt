@@ -21,6 +21,6 @@ pub struct Job {
     pub since: u32,
     // how often it was opened
     pub openings: u32,
-    // the ticks from its release to its end, 0 until then
+    // the ticks from its release to its end, 0 until then; beside the state, as in the answer about a job
     pub took: u32,
 }

@@ -9,7 +9,8 @@ use model::fault::{Fault, NO_TASK, Part, Refusal};
 // The most tasks of a table.
 pub const MOST_TASKS: usize = 16;
 
-// What a kind refuses about the row of one task.
+// What a kind refuses about the row of one task. A closure in its place would have to be callable by a `requires`, and no
+// public function has one.
 pub trait RowRule<T> {
     ghost refuses: { Self → T → Option Refused };
 

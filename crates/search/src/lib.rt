@@ -18,7 +18,7 @@ pub trait Demand {
 }
 
 // The least length from 1 to `limit` at which the demand is at most the length. Every length below a demand that was
-// found has that demand too, or more, so the search goes on from the demand itself.
+// found has that demand too, or more, so the search goes on from the demand itself, and not by a range.
 pub fn least_length<D: Demand>(demand: &D, limit: u32) -> Option<u32>
     ensures value { result ≡ least (D.Demand.demand demand.now) limit }
     ensures law { MatchOption result (NeverMet (D.Demand.demand demand.now) limit) (LeastMet (D.Demand.demand demand.now) limit) }

@@ -14,7 +14,7 @@ use Rattle.days.specs.declared.command.Mark.{Mark}
 use Rattle.days.specs.declared.job.Job.{Job}
 
 -- Rules 11 to 13 for a job that is at hand, as the functions inside a service answer them; that they agree with the
--- rules is proved (`serve_obstacle`), and no public contract cites them.
+-- rules is proved (`serve_answer`), and no public contract cites them.
 
 -- why another job has to be served first
 abbrev pub rival : Parts → List Job → Job → Option Refusal
