@@ -3,17 +3,16 @@
 use Rattle.std.specs.Prelude.{ℕ, List, [], map, Ok, Err, Option, Result}
 use Rattle.std.specs.Result.{result_err}
 use Rattle.model.specs.declared.fault.Fault.{Fault}
-use Rattle.rows.specs.Kept.{kept}
 use Rattle.analysis.specs.declared.judged.Judged.{Judged}
 use Rattle.analysis.specs.declared.sheet.Sheet.{Sheet}
 use Rattle.analysis.specs.declared.sheet.Times.{Times}
 
 -- the columns of a sheet
 abbrev pub windows_on : Sheet → List ℕ
-windows_on sheet = map (λ (t : Times). t.window) (kept sheet.times)
+windows_on sheet = map (λ (t : Times). t.window) sheet.times.items
 
 abbrev pub bounds_on : Sheet → List ℕ
-bounds_on sheet = map (λ (t : Times). t.bound) (kept sheet.times)
+bounds_on sheet = map (λ (t : Times). t.bound) sheet.times.items
 
 -- a column of the sheet, which has no tasks where the table is refused
 abbrev pub column : (Sheet → List ℕ) → Result Sheet Fault → List ℕ

@@ -2,7 +2,8 @@
 ghost use Rattle.std.specs.Prelude.{◌≡◌, slice_index};
 ghost use Rattle.analysis.specs.Judgement.{windows_on, bounds_on};
 
-use rows::per_task::PerTask;
+use arrayvec::ArrayVec;
+use rows::rule::MOST_TASKS;
 
 #[derive(Clone, Copy, Default)]
 pub struct Times {
@@ -12,7 +13,7 @@ pub struct Times {
 
 #[derive(Drop)]
 pub struct Sheet {
-    pub(crate) times: PerTask<Times>,
+    pub(crate) times: ArrayVec<Times, MOST_TASKS>,
 }
 
 impl Sheet {
@@ -21,7 +22,9 @@ impl Sheet {
     pub(crate) fn window(&self, task: u8) -> u32
         ensures { result ≡ slice_index (windows_on self.now) task }
     {
-        self.times.get(task).map_or(0, |times| times.window)
+        self.times
+            .get(usize::from(task))
+            .map_or(0, |times| times.window)
     }
 
     // The bound of a task, or 0 for one that the sheet does not have.
@@ -29,6 +32,8 @@ impl Sheet {
     pub(crate) fn bound(&self, task: u8) -> u32
         ensures { result ≡ slice_index (bounds_on self.now) task }
     {
-        self.times.get(task).map_or(0, |times| times.bound)
+        self.times
+            .get(usize::from(task))
+            .map_or(0, |times| times.bound)
     }
 }

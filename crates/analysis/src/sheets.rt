@@ -9,7 +9,6 @@ use crate::sheet::{Sheet, Times};
 use arrayvec::ArrayVec;
 use model::fault::{Fault, Part, Refusal};
 use model::parts::Parts;
-use rows::per_task::PerTask;
 
 // The sheet, or the first task that misses its deadline.
 pub(crate) fn sheet<P: Parts>(parts: &P, deadlines: &[u32]) -> Result<Sheet, Fault>
@@ -22,9 +21,7 @@ pub(crate) fn sheet<P: Parts>(parts: &P, deadlines: &[u32]) -> Result<Sheet, Fau
     for (task, deadline) in deadlines.iter().enumerate() {
         times.push(times_in(parts, task as u8, *deadline)?);
     }
-    Ok(Sheet {
-        times: PerTask::from(times),
-    })
+    Ok(Sheet { times })
 }
 
 // The window and the bound of a task that keeps its deadline.

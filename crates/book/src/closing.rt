@@ -11,7 +11,6 @@ use crate::books::{Book, Closed};
 use crate::totals::{TaskTotals, Totals};
 use arrayvec::ArrayVec;
 use model::parts::Parts;
-use rows::per_task::PerTask;
 use rows::rule::MOST_TASKS;
 use timeline::state::Timeline;
 
@@ -40,7 +39,5 @@ fn totals(timeline: &Timeline) -> Totals
             longest: timeline.longest(task),
         });
     }
-    Totals {
-        tasks: PerTask::from(tasks),
-    }
+    Totals { tasks }
 }

@@ -2,7 +2,8 @@
 ghost use Rattle.std.specs.Prelude.{◌≡◌, slice_index};
 ghost use Rattle.book.specs.Columns.{finished_in, longest_in};
 
-use rows::per_task::PerTask;
+use arrayvec::ArrayVec;
+use rows::rule::MOST_TASKS;
 
 // The jobs of a task that were finished, and the longest time that one took, 0 if none.
 #[derive(Clone, Copy, Default)]
@@ -14,7 +15,7 @@ pub(crate) struct TaskTotals {
 // The totals of tasks 0 to 15.
 #[derive(Drop)]
 pub struct Totals {
-    pub(crate) tasks: PerTask<TaskTotals>,
+    pub(crate) tasks: ArrayVec<TaskTotals, MOST_TASKS>,
 }
 
 impl Totals {
@@ -23,7 +24,9 @@ impl Totals {
     pub fn finished(&self, task: u8) -> u32
         ensures { result ≡ slice_index (finished_in self.now) task }
     {
-        self.tasks.get(task).map_or(0, |totals| totals.finished)
+        self.tasks
+            .get(usize::from(task))
+            .map_or(0, |totals| totals.finished)
     }
 
     // The longest time that a job of the task took.
@@ -31,6 +34,8 @@ impl Totals {
     pub fn longest(&self, task: u8) -> u32
         ensures { result ≡ slice_index (longest_in self.now) task }
     {
-        self.tasks.get(task).map_or(0, |totals| totals.longest)
+        self.tasks
+            .get(usize::from(task))
+            .map_or(0, |totals| totals.longest)
     }
 }

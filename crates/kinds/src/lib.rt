@@ -5,7 +5,7 @@
 pub mod numbers;
 
 // A task with floating sections: what a job costs, and how long it may run without an opening.
-#[derive(Clone, Copy, Default, PartialEq, Eq, Debug)]
+#[derive(Clone, Copy, PartialEq, Eq, Debug)]
 pub struct FloatingTask {
     pub cost: u32,
     pub longest: u32,

@@ -6,7 +6,7 @@ ghost use Rattle.model.specs.declared.fault.Refusal.{Refusal as Refused};
 use model::fault::Refusal;
 
 pub trait RowShape {
-    type Row: Copy + Default;
+    type Row: Copy;
 
     ghost refuses: { Self.Row → Option Refused };
 
