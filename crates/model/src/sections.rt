@@ -2,6 +2,15 @@
 ghost use Rattle.std.specs.Prelude.{◌≡◌};
 ghost use Rattle.model.specs.Sections.{SectionsMeaning, LawfulSections};
 
+// How far a job has come with a tick: the ticks that it has received and those of them since its last opening or its start,
+// this one too, and its openings before it.
+#[derive(Clone, Copy, PartialEq, Eq, Debug)]
+pub struct Progress {
+    pub received: u32,
+    pub since: u32,
+    pub openings: u32,
+}
+
 pub trait Sections {
     ghost meaning: { Self → SectionsMeaning };
 
@@ -23,18 +32,17 @@ pub trait Sections {
     fn tail(&self, task: u8) -> u32
         ensures { result ≡ (meaning self.now).tail task };
 
-    // The three marks of a tick. `received` ticks in all and `since` of them from the last opening or the start,
-    // this one too, and `openings` before it.
+    // The three marks of a tick, after which the job has come so far.
 
     // Whether the job may keep the processor after the tick.
-    fn may_hold(&self, task: u8, received: u32, since: u32, openings: u32) -> bool
-        ensures { result ≡ (meaning self.now).may_hold task received since openings };
+    fn may_hold(&self, task: u8, progress: Progress) -> bool
+        ensures { result ≡ (meaning self.now).may_hold task progress.received progress.since progress.openings };
 
     // Whether the job may be interrupted after the tick.
-    fn may_open(&self, task: u8, received: u32, since: u32, openings: u32) -> bool
-        ensures { result ≡ (meaning self.now).may_open task received since openings };
+    fn may_open(&self, task: u8, progress: Progress) -> bool
+        ensures { result ≡ (meaning self.now).may_open task progress.received progress.since progress.openings };
 
     // Whether the job may end with the tick.
-    fn may_finish(&self, task: u8, received: u32, since: u32, openings: u32) -> bool
-        ensures { result ≡ (meaning self.now).may_finish task received since openings };
+    fn may_finish(&self, task: u8, progress: Progress) -> bool
+        ensures { result ≡ (meaning self.now).may_finish task progress.received progress.since progress.openings };
 }

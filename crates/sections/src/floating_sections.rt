@@ -7,9 +7,11 @@ use crate::row_shape::RowShape;
 use crate::shaped_sections::ShapedSections;
 use kinds::FloatingTask;
 use model::fault::Refusal;
+use model::sections::Progress;
 use rows::rule::{Limits, RowRule};
 
-// A part that is made of a cost and a longest stretch for each task. It means `floating_sections`, and `floating_fault` says when it is not made.
+// A part that is made of a cost and a longest stretch for each task. It means `floating_sections`, and `floating_fault`
+// says when it is not made.
 pub type FloatingSections = ShapedSections<Floating>;
 
 pub struct Floating;
@@ -46,15 +48,15 @@ impl RowShape for Floating {
         1
     }
 
-    fn may_hold(task: &FloatingTask, received: u32, since: u32, _openings: u32) -> bool {
-        since < task.longest && received < task.cost
+    fn may_hold(task: &FloatingTask, progress: Progress) -> bool {
+        progress.since < task.longest && progress.received < task.cost
     }
 
-    fn may_open(task: &FloatingTask, received: u32, since: u32, _openings: u32) -> bool {
-        since <= task.longest && received < task.cost
+    fn may_open(task: &FloatingTask, progress: Progress) -> bool {
+        progress.since <= task.longest && progress.received < task.cost
     }
 
-    fn may_finish(task: &FloatingTask, received: u32, since: u32, _openings: u32) -> bool {
-        since <= task.longest && received <= task.cost
+    fn may_finish(task: &FloatingTask, progress: Progress) -> bool {
+        progress.since <= task.longest && progress.received <= task.cost
     }
 }

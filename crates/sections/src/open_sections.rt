@@ -8,6 +8,7 @@ use crate::costs::COSTS;
 use crate::row_shape::RowShape;
 use crate::shaped_sections::ShapedSections;
 use model::fault::Refusal;
+use model::sections::Progress;
 use rows::rule::RowRule;
 
 // A part that is made of one cost for each task. It means `open_sections`, and `costs_fault` says when it is not made.
@@ -40,15 +41,15 @@ impl RowShape for Open {
         1
     }
 
-    fn may_hold(_cost: &u32, _received: u32, _since: u32, _openings: u32) -> bool {
+    fn may_hold(_cost: &u32, _progress: Progress) -> bool {
         false
     }
 
-    fn may_open(cost: &u32, received: u32, _since: u32, _openings: u32) -> bool {
-        received < *cost
+    fn may_open(cost: &u32, progress: Progress) -> bool {
+        progress.received < *cost
     }
 
-    fn may_finish(cost: &u32, received: u32, _since: u32, _openings: u32) -> bool {
-        received <= *cost
+    fn may_finish(cost: &u32, progress: Progress) -> bool {
+        progress.received <= *cost
     }
 }

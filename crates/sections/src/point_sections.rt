@@ -1,5 +1,5 @@
 // Point sections, preemption at fixed points: a job is the given segments one after the other, and opens between them.
-ghost use Rattle.std.specs.Prelude.{◌≡◌, ◌≤◌, length, sum};
+ghost use Rattle.std.specs.Prelude.{◌≡◌, sum};
 ghost use Rattle.kinds.specs.Numbers.{used};
 ghost use Rattle.kinds.specs.SectionKinds.{points_shape, points_refused, segments_refused, number_behind};
 ghost use Rattle.kinds.proofs.SectionLaws.{points_shape_lawful};
@@ -8,13 +8,15 @@ ghost use Rattle.model.specs.Sections.{most_cost};
 
 use crate::costs::{COSTS, MOST_COST};
 use crate::row_shape::RowShape;
-use crate::segments;
+use crate::segments::Segments;
 use crate::shaped_sections::ShapedSections;
 use kinds::numbers::used;
 use model::fault::Refusal;
+use model::sections::Progress;
 use rows::rule::RowRule;
 
-// A part that is made of up to eight segments for each task, with 0 behind the last. It means `points_sections`, and `points_fault` says when it is not made.
+// A part that is made of up to eight segments for each task, with 0 behind the last. It means `points_sections`, and
+// `points_fault` says when it is not made.
 pub type PointSections = ShapedSections<Points>;
 
 pub struct Points;
@@ -33,31 +35,32 @@ impl RowShape for Points {
         COSTS
             .refused(&row[0])
             .or_else(|| refused_segment(row))
-            .or_else(|| refused_total(used(row)))
+            .or_else(|| refused_total(Segments::of(row)))
     }
 
     fn cost(row: &[u32; 8]) -> u32 {
-        segments::total(used(row)) as u32
+        // no row that is kept costs more than 100,000
+        u32::try_from(Segments::of(row).total()).unwrap_or(MOST_COST)
     }
 
     fn longest(row: &[u32; 8]) -> u32 {
-        segments::longest(used(row))
+        Segments::of(row).longest()
     }
 
     fn tail(row: &[u32; 8]) -> u32 {
-        segments::last(used(row))
+        Segments::of(row).last()
     }
 
-    fn may_hold(row: &[u32; 8], received: u32, since: u32, openings: u32) -> bool {
-        segments::may_hold(used(row), received, since, openings)
+    fn may_hold(row: &[u32; 8], progress: Progress) -> bool {
+        Segments::of(row).may_hold(progress)
     }
 
-    fn may_open(row: &[u32; 8], received: u32, since: u32, openings: u32) -> bool {
-        segments::may_open(used(row), received, since, openings)
+    fn may_open(row: &[u32; 8], progress: Progress) -> bool {
+        Segments::of(row).may_open(progress)
     }
 
-    fn may_finish(row: &[u32; 8], received: u32, since: u32, openings: u32) -> bool {
-        segments::may_finish(used(row), received, since, openings)
+    fn may_finish(row: &[u32; 8], progress: Progress) -> bool {
+        Segments::of(row).may_finish(progress)
     }
 }
 
@@ -86,13 +89,9 @@ fn refused_behind(numbers: &[u32]) -> Option<Refusal>
 }
 
 // The segments together are a cost.
-fn refused_total(segments: &[u32]) -> Option<Refusal>
-    requires { length segments.now ≤ 8 }
-    ensures { result ≡ outside 1 most_cost (sum segments.now) }
+fn refused_total(segments: Segments) -> Option<Refusal>
+    ensures { result ≡ outside 1 most_cost (sum segments.entry.ticks.now) }
 {
-    if (1..=u64::from(MOST_COST)).contains(&segments::total(segments)) {
-        None
-    } else {
-        Some(Refusal::Range)
-    }
+    let allowed = (1..=u64::from(MOST_COST)).contains(&segments.total());
+    (!allowed).then_some(Refusal::Range)
 }

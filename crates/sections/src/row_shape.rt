@@ -4,6 +4,7 @@ ghost use Rattle.kinds.specs.SectionKinds.{Shape, LawfulShape};
 ghost use Rattle.model.specs.declared.fault.Refusal.{Refusal as Refused};
 
 use model::fault::Refusal;
+use model::sections::Progress;
 
 pub trait RowShape {
     type Row: Copy;
@@ -19,8 +20,7 @@ pub trait RowShape {
         ensures { result ≡ refuses row.now };
 
     fn cost(row: &Self::Row) -> u32
-        requires { refuses row.now ≡ None }
-        ensures { result ≡ (shape row.now).cost };
+        ensures { refuses row.now ≡ None → result ≡ (shape row.now).cost };
 
     fn longest(row: &Self::Row) -> u32
         ensures { result ≡ (shape row.now).longest };
@@ -29,12 +29,12 @@ pub trait RowShape {
         ensures { result ≡ (shape row.now).tail };
 
     // The three marks of a tick, as a part is asked for them.
-    fn may_hold(row: &Self::Row, received: u32, since: u32, openings: u32) -> bool
-        ensures { result ≡ (shape row.now).hold received since openings };
+    fn may_hold(row: &Self::Row, progress: Progress) -> bool
+        ensures { result ≡ (shape row.now).hold progress.received progress.since progress.openings };
 
-    fn may_open(row: &Self::Row, received: u32, since: u32, openings: u32) -> bool
-        ensures { result ≡ (shape row.now).opens received since openings };
+    fn may_open(row: &Self::Row, progress: Progress) -> bool
+        ensures { result ≡ (shape row.now).opens progress.received progress.since progress.openings };
 
-    fn may_finish(row: &Self::Row, received: u32, since: u32, openings: u32) -> bool
-        ensures { result ≡ (shape row.now).done received since openings };
+    fn may_finish(row: &Self::Row, progress: Progress) -> bool
+        ensures { result ≡ (shape row.now).done progress.received progress.since progress.openings };
 }

@@ -8,7 +8,7 @@ ghost use Rattle.rows.specs.Making.{MakesUnlessFault};
 
 use crate::row_shape::RowShape;
 use model::fault::{Fault, Part, Refusal};
-use model::sections::Sections;
+use model::sections::{Progress, Sections};
 use rows::per_task::PerTask;
 use rows::rule::RowRule;
 use std::marker::PhantomData;
@@ -62,21 +62,21 @@ impl<K: RowShape> Sections for ShapedSections<K> {
         self.rows.get(task).map_or(0, |row| K::tail(&row))
     }
 
-    fn may_hold(&self, task: u8, received: u32, since: u32, openings: u32) -> bool {
+    fn may_hold(&self, task: u8, progress: Progress) -> bool {
         self.rows
             .get(task)
-            .is_some_and(|row| K::may_hold(&row, received, since, openings))
+            .is_some_and(|row| K::may_hold(&row, progress))
     }
 
-    fn may_open(&self, task: u8, received: u32, since: u32, openings: u32) -> bool {
+    fn may_open(&self, task: u8, progress: Progress) -> bool {
         self.rows
             .get(task)
-            .is_some_and(|row| K::may_open(&row, received, since, openings))
+            .is_some_and(|row| K::may_open(&row, progress))
     }
 
-    fn may_finish(&self, task: u8, received: u32, since: u32, openings: u32) -> bool {
+    fn may_finish(&self, task: u8, progress: Progress) -> bool {
         self.rows
             .get(task)
-            .is_some_and(|row| K::may_finish(&row, received, since, openings))
+            .is_some_and(|row| K::may_finish(&row, progress))
     }
 }

@@ -8,6 +8,7 @@ use crate::costs::COSTS;
 use crate::row_shape::RowShape;
 use crate::shaped_sections::ShapedSections;
 use model::fault::Refusal;
+use model::sections::Progress;
 use rows::rule::RowRule;
 
 // A part that is made of one cost for each task. It means `shut_sections`, and `costs_fault` says when it is not made.
@@ -41,15 +42,15 @@ impl RowShape for Shut {
         *cost
     }
 
-    fn may_hold(cost: &u32, received: u32, since: u32, _openings: u32) -> bool {
-        received < *cost && since < *cost
+    fn may_hold(cost: &u32, progress: Progress) -> bool {
+        progress.received < *cost && progress.since < *cost
     }
 
-    fn may_open(_cost: &u32, _received: u32, _since: u32, _openings: u32) -> bool {
+    fn may_open(_cost: &u32, _progress: Progress) -> bool {
         false
     }
 
-    fn may_finish(cost: &u32, received: u32, _since: u32, _openings: u32) -> bool {
-        received <= *cost
+    fn may_finish(cost: &u32, progress: Progress) -> bool {
+        progress.received <= *cost
     }
 }

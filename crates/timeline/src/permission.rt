@@ -11,7 +11,7 @@ use jobs::predicates::is_held;
 use jobs::questions::{any_held, any_more_urgent};
 use model::fault::Refusal;
 use model::parts::Parts;
-use model::sections::Sections;
+use model::sections::{Progress, Sections};
 
 // Why another job has to be served first: while one is held only that one is served, and else the most urgent.
 pub(crate) fn rival<P: Parts>(parts: &P, jobs: &[Job], job: &Job) -> Option<Refusal>
@@ -30,11 +30,14 @@ pub(crate) fn is_allowed<P: Parts>(parts: &P, mark: Mark, job: &Job) -> bool
     ensures { result ≡ allowed (P.meaning parts.now).sections mark job.now }
 {
     let sections = parts.sections();
-    let received = job.received + 1;
-    let since = job.since + 1;
+    let progress = Progress {
+        received: job.received + 1,
+        since: job.since + 1,
+        openings: job.openings,
+    };
     match mark {
-        Mark::Hold => sections.may_hold(job.task, received, since, job.openings),
-        Mark::Open => sections.may_open(job.task, received, since, job.openings),
-        Mark::Done => sections.may_finish(job.task, received, since, job.openings),
+        Mark::Hold => sections.may_hold(job.task, progress),
+        Mark::Open => sections.may_open(job.task, progress),
+        Mark::Done => sections.may_finish(job.task, progress),
     }
 }

@@ -2,7 +2,7 @@ use Rattle.std.proofs.Common.{◌≡◌, ℕ, ◌-◌, List, [], ◌∷◌, leng
 use Rattle.std.specs.List.{slice_get}
 use Rattle.std.specs.Option.{unwrap_or}
 use Rattle.kinds.specs.SectionKinds.{final}
-use Rattle.sections.proofs.segments.last.Goals as goal
+use Rattle.sections.proofs.segments.Segments.last.Goals as goal
 
 -- the last of a number and those behind it
 last_behind : (x : ℕ) (xs : List ℕ) → final x xs ≡ unwrap_or (slice_get (x ∷ xs) (length xs)) 0
@@ -15,4 +15,4 @@ last_place [] = refl
 last_place (x ∷ xs) = last_behind x xs ∙ ap (λ n. unwrap_or (slice_get (x ∷ xs) n) 0) (omega arith)
 
 pub returns : goal.returns
-returns c = let at-end = last_place c.args.segments.now in search rules
+returns c = let at-end = last_place c.args.self.ticks.now in search rules

@@ -4,7 +4,7 @@ use Rattle.std.specs.Option.{unwrap_or}
 use Rattle.std.proofs.lemmas.Iterator.{YieldsList-from_slice}
 use Rattle.std.proofs.lemmas.Iterator.Consumers.{YieldsList-at, YieldsList-from_copied, max_from_yields_List}
 use Rattle.kinds.specs.SectionKinds.{largest}
-use Rattle.sections.proofs.segments.longest.Goals as goal
+use Rattle.sections.proofs.segments.Segments.longest.Goals as goal
 
 -- the greatest of a number and those behind it
 fold_largest : (x : ℕ) (xs : List ℕ) → fold max x xs ≡ max x (largest xs)
@@ -18,6 +18,6 @@ reduce_largest (x ∷ xs) = fold_largest x xs
 
 pub returns : goal.returns
 returns c =
-    let found = max_from_yields_List c.copied.result c.max.result c.max.ensures.ran (YieldsList-from_copied (YieldsList-at c.copied.ensures.source (YieldsList-from_slice c.args.segments.now cc))) in
-    let all = reduce_largest c.args.segments.now in
+    let found = max_from_yields_List c.copied.result c.max.result c.max.ensures.ran (YieldsList-from_copied (YieldsList-at c.copied.ensures.source (YieldsList-from_slice c.args.self.ticks.now cc))) in
+    let all = reduce_largest c.args.self.ticks.now in
     search rules
