@@ -1,10 +1,8 @@
 // What a book answers: to a command, and to the questions about the time and about a job.
 ghost use Rattle.std.specs.Prelude.{◌≡◌, List, Some, None, sum_by};
 ghost use Rattle.std.specs.Result.{result_err};
-ghost use Rattle.days.specs.Days.{Event, event_ticks, Led, Followed};
-ghost use Rattle.days.specs.Rules.{answer};
-ghost use Rattle.analysis.specs.Judgement.{verdict_of};
-ghost use Rattle.book.specs.Books.{parts_of, state_of};
+ghost use Rattle.days.specs.Days.{Event, event_ticks};
+ghost use Rattle.book.specs.Books.{state_of, answer_of, LedTo, CalledOn};
 ghost use Rattle.book.specs.JobViews.{nth_job};
 
 use crate::books::Book;
@@ -18,7 +16,7 @@ impl<P: Parts> Book<P> {
     // lead to the book after.
     pub fn obey(&mut self, command: Command) -> Result<(), Fault>
         ensures table { self.new.table ≡ self.old.table }
-        ensures followed { Followed (verdict_of self.old.table) (P.meaning (parts_of self.old)) (state_of self.old) (Some command) (result_err result) (state_of self.new) }
+        ensures followed { CalledOn P.meaning self.old (Some command) (result_err result) self.new }
     {
         match self.table.verdict() {
             Some(_) => Err(Fault::new(Refusal::Unfit, Part::Book, NO_TASK)),
@@ -29,14 +27,14 @@ impl<P: Parts> Book<P> {
     // Whatever day led to the book, now is the sum of the ticks of the commands taken.
     pub fn now(&self) -> u32
         ensures value { result ≡ (state_of self.now).now }
-        ensures day { (day : List Event) → Led (verdict_of self.now.table) (P.meaning (parts_of self.now)) day (state_of self.now) → result ≡ sum_by event_ticks day }
+        ensures day { (day : List Event) → LedTo P.meaning day self.now → result ≡ sum_by event_ticks day }
     {
         self.timeline.now()
     }
 
     // What is answered to bytes that are no command.
     pub fn unread(&self) -> Fault
-        ensures { Some result ≡ answer (verdict_of self.now.table) (P.meaning (parts_of self.now)) (state_of self.now) None }
+        ensures { Some result ≡ answer_of P.meaning self.now None }
     {
         match self.table.verdict() {
             Some(_) => Fault::new(Refusal::Unfit, Part::Book, NO_TASK),

@@ -1,11 +1,10 @@
 // Opening a book, with the promise about all its days.
 ghost use Rattle.std.specs.Prelude.{◌≡◌, []};
-ghost use Rattle.days.specs.Days.{Led};
 ghost use Rattle.days.specs.Promise.{NoDayWorse, NoDayWorseThanHeavier};
 ghost use Rattle.days.specs.Rules.{new_state};
 ghost use Rattle.analysis.specs.Drafted.{drafted};
 ghost use Rattle.analysis.specs.Judgement.{verdict_of};
-ghost use Rattle.book.specs.Books.{parts_of, state_of};
+ghost use Rattle.book.specs.Books.{state_of, LedTo};
 
 use crate::books::Book;
 use analysis::judged::Judged;
@@ -19,7 +18,7 @@ impl<P: Parts> Book<P> {
     pub fn open(table: Judged<P>, storage: JobStorage) -> Book<P>
         ensures table { result.table ≡ table }
         ensures state { state_of result ≡ new_state }
-        ensures day { Led (verdict_of table) (P.meaning (parts_of result)) [] (state_of result) }
+        ensures day { LedTo P.meaning [] result }
         ensures promise { NoDayWorse (drafted P.meaning table.draft) (verdict_of table) }
         ensures lighter { NoDayWorseThanHeavier (drafted P.meaning table.draft) (verdict_of table) }
     {

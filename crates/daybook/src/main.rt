@@ -2,9 +2,8 @@
 #![tactic(auto)]
 
 ghost use Rattle.std.specs.Prelude.{◌≡◌, [], ◌∷◌, MatchResult};
-ghost use Rattle.days.specs.Days.{GoesOn};
 ghost use Rattle.analysis.specs.Judgement.{verdict_of, windows_of, bounds_of};
-ghost use Rattle.book.specs.Books.{parts_of, state_of};
+ghost use Rattle.book.specs.Books.{ComesOf};
 ghost use Rattle.daybook.specs.BuiltIn.{BuiltInSheet};
 ghost use Rattle.daybook.specs.Letters.{shown_letter};
 
@@ -16,6 +15,7 @@ use days::job::JobState;
 use model::fault::Fault;
 use model::parts::{Parts, Trio};
 use orders::earliest_deadline::EarliestDeadline;
+use rows::rule::MOST_TASKS;
 use sections::open_sections::OpenSections;
 use std::io;
 use std::io::Read;
@@ -56,7 +56,7 @@ fn print_sheet<P>(rt: &HostRuntime, table: &Judged<P>) -> io::Result<()> {
         return println!(rt; "refused: {fault}");
     }
     // an accepted table has at most sixteen tasks
-    for task in 0..table.tasks().min(16) as u8 {
+    for task in 0..table.tasks().min(MOST_TASKS) as u8 {
         let window = table.window(task);
         let bound = table.bound(task);
         println!(rt; "bound {task} {window} {bound}")?;
@@ -67,7 +67,7 @@ fn print_sheet<P>(rt: &HostRuntime, table: &Judged<P>) -> io::Result<()> {
 // Obeys the record and prints what came of each command, until nothing can be read or the record is at its end.
 fn follow<P: Parts>(rt: &HostRuntime, book: &mut Book<P>, record: &[u8]) -> io::Result<()>
     ensures table { book.new.table ≡ book.old.table }
-    ensures day { GoesOn (verdict_of book.old.table) (P.meaning (parts_of book.old)) (state_of book.old) (state_of book.new) }
+    ensures day { ComesOf P.meaning book.old book.new }
 {
     // the answer to a command says where the next one stands, so that no iterator over the bytes would do
     let mut place = 0;

@@ -53,9 +53,10 @@ impl Order for FixedPriority {
     }
 
     fn reach(&self, task: u8, other: u8, _offset: u32) -> Reach {
-        match self.rows.both(task, other) {
-            Some((own, other)) if own <= other => Reach::NoEnd,
-            _ => Reach::Ticks(0),
+        if self.counted(task, other) {
+            Reach::NoEnd
+        } else {
+            Reach::Ticks(0)
         }
     }
 

@@ -1,10 +1,7 @@
 // Obeying commands out of a record.
 ghost use Rattle.std.specs.Prelude.{◌≡◌, ◌<◌, ◌≤◌, length, drop, IfSome, if◌then◌else◌, Some, None, MatchResult};
-ghost use Rattle.days.specs.Days.{Followed};
 ghost use Rattle.days.specs.Records.{decoded};
-ghost use Rattle.days.specs.Rules.{answer};
-ghost use Rattle.analysis.specs.Judgement.{verdict_of};
-ghost use Rattle.book.specs.Books.{parts_of, state_of};
+ghost use Rattle.book.specs.Books.{answer_of, CalledOn};
 ghost use Rattle.records.specs.Placed.{reads_on, read_answer, book_answer};
 
 use crate::fault::RecordFault;
@@ -17,8 +14,8 @@ use model::parts::Parts;
 // end, are refused as unread.
 pub fn obey<P: Parts>(book: &mut Book<P>, bytes: &[u8], place: usize) -> Result<usize, RecordFault>
     ensures table { book.new.table ≡ book.old.table }
-    ensures answer { result ≡ read_answer (answer (verdict_of book.old.table) (P.meaning (parts_of book.old)) (state_of book.old) (decoded (drop place bytes.now))) (decoded (drop place bytes.now)) place }
-    ensures followed { Followed (verdict_of book.old.table) (P.meaning (parts_of book.old)) (state_of book.old) (decoded (drop place bytes.now)) (book_answer result) (state_of book.new) }
+    ensures answer { result ≡ read_answer (answer_of P.meaning book.old (decoded (drop place bytes.now))) (decoded (drop place bytes.now)) place }
+    ensures followed { CalledOn P.meaning book.old (decoded (drop place bytes.now)) (book_answer result) book.new }
     ensures further { MatchResult result (λ next. (place < next) × (next ≤ length bytes.now)) (λ f. IfSome f.next (λ next. (place < next) × (next ≤ length bytes.now))) }
 {
     let Some((command, rest)) = command(bytes_from(bytes, place)) else {

@@ -29,11 +29,8 @@ impl RowRule<u32> for Limits {
     ghost refuses = { λ s x. outside s.low s.high x };
 
     fn refused(&self, row: &u32) -> Option<Refusal> {
-        if (self.low..=self.high).contains(row) {
-            None
-        } else {
-            Some(Refusal::Range)
-        }
+        let outside = !(self.low..=self.high).contains(row);
+        outside.then_some(Refusal::Range)
     }
 }
 

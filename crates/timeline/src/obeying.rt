@@ -1,10 +1,9 @@
 // What the commands do to the time and the jobs.
 ghost use Rattle.std.specs.Prelude.{◌≡◌};
-ghost use Rattle.std.specs.Result.{result_err};
 ghost use Rattle.model.specs.Analysis.{Parts as Meanings};
 ghost use Rattle.days.specs.Rules.{new_state};
 ghost use Rattle.days.specs.declared.command.Command.TheVariants.{Idle};
-ghost use Rattle.timeline.specs.Obeyed.{Obeyed};
+ghost use Rattle.timeline.specs.Obeyed.{ObeyedBy};
 ghost use Rattle.timeline.specs.Timelines.{held_by};
 
 use crate::state::{LAST_TICK, Timeline};
@@ -25,7 +24,7 @@ impl Timeline {
 
     // Obeys a command by the rules, or refuses it by the first rule that it breaks and leaves everything as it was.
     pub fn obey<P: Parts>(&mut self, parts: &P, command: Command) -> Result<(), Fault>
-        ensures { Obeyed (P.meaning parts.now) command (held_by self.entry.now) (held_by self.exit.now) (result_err result) }
+        ensures { ObeyedBy (P.meaning parts.now) command self.entry.now self.exit.now result }
     {
         match command {
             Command::Release(task) => self.release(parts, task),
@@ -36,7 +35,7 @@ impl Timeline {
 
     // Idling asks nothing of the parts.
     fn idle(&mut self, ticks: u16) -> Result<(), Fault>
-        ensures { (m : Meanings) → Obeyed m (Idle ticks) (held_by self.entry.now) (held_by self.exit.now) (result_err result) }
+        ensures { (m : Meanings) → ObeyedBy m (Idle ticks) self.entry.now self.exit.now result }
     {
         if ticks == 0 {
             return Err(Fault::new(Refusal::Unread, Part::Book, NO_TASK));

@@ -1,10 +1,9 @@
 // Releasing a job.
 ghost use Rattle.std.specs.Prelude.{◌≡◌};
-ghost use Rattle.std.specs.Result.{result_err};
 ghost use Rattle.days.specs.Jobs.{new_job};
 ghost use Rattle.days.specs.Rules.{crowded};
 ghost use Rattle.days.specs.declared.command.Command.TheVariants.{Release};
-ghost use Rattle.timeline.specs.Obeyed.{Obeyed};
+ghost use Rattle.timeline.specs.Obeyed.{ObeyedBy};
 ghost use Rattle.timeline.specs.Timelines.{held_by};
 
 use crate::state::Timeline;
@@ -17,7 +16,7 @@ use model::parts::Parts;
 
 impl Timeline {
     pub(crate) fn release<P: Parts>(&mut self, parts: &P, task: u8) -> Result<(), Fault>
-        ensures { Obeyed (P.meaning parts.now) (Release task) (held_by self.entry.now) (held_by self.exit.now) (result_err result) }
+        ensures { ObeyedBy (P.meaning parts.now) (Release task) self.entry.now self.exit.now result }
     {
         if task >= parts.arrivals().tasks() {
             return Err(Fault::new(Refusal::Unread, Part::Book, NO_TASK));

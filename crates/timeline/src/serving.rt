@@ -1,11 +1,9 @@
 // Serving a job for one tick.
 ghost use Rattle.std.specs.Prelude.{◌≡◌, ◌≤◌};
-ghost use Rattle.std.specs.Result.{result_err};
 ghost use Rattle.days.specs.Rules.{last_tick};
 ghost use Rattle.days.specs.declared.command.Command.TheVariants.{Serve};
-ghost use Rattle.timeline.specs.Obeyed.{Obeyed, obstacle};
+ghost use Rattle.timeline.specs.Obeyed.{ObeyedBy, obstacle};
 ghost use Rattle.timeline.specs.Past.{latest};
-ghost use Rattle.timeline.specs.Timelines.{held_by};
 
 use crate::permission::{is_allowed, rival};
 use crate::state::{LAST_TICK, Timeline};
@@ -19,7 +17,7 @@ use model::parts::Parts;
 
 impl Timeline {
     pub(crate) fn serve<P: Parts>(&mut self, parts: &P, mark: Mark, task: u8) -> Result<(), Fault>
-        ensures { Obeyed (P.meaning parts.now) (Serve mark task) (held_by self.entry.now) (held_by self.exit.now) (result_err result) }
+        ensures { ObeyedBy (P.meaning parts.now) (Serve mark task) self.entry.now self.exit.now result }
     {
         if task >= parts.arrivals().tasks() {
             return Err(Fault::new(Refusal::Unread, Part::Book, NO_TASK));
