@@ -10,7 +10,7 @@ pub struct Draft<P> {
 }
 
 impl<R, O, S> Draft<Trio<R, O, S>> {
-    // Nothing is refused here: judging looks for every fault.
+    // The three parts come one by one only here. Nothing is refused: judging looks for every fault.
     pub fn new(deadlines: Vec<u32>, arrivals: R, order: O, sections: S) -> Draft<Trio<R, O, S>>
         ensures deadlines { result.deadlines ≡ deadlines }
         ensures arrivals { result.parts.arrivals ≡ arrivals }

@@ -87,7 +87,7 @@ fn follow<P: Parts>(rt: &HostRuntime, book: &mut Book<P>, record: &[u8]) -> io::
     Ok(())
 }
 
-// The letter of a command, or `?` for a byte that is none.
+// The letter of a command, or `?` for a byte that is none, as it is printed.
 fn letter(byte: u8) -> char
     ensures { result ≡ shown_letter byte }
 {

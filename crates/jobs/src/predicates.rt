@@ -51,7 +51,7 @@ pub fn is_more_urgent<P: Parts>(parts: &P, job: &Job, other: &Job) -> bool
     is_unfinished(other) && !parts.order().ahead(released(job), released(other))
 }
 
-// The job as an order names it. Both types are of other crates, so this is no `From`.
+// The job as an order names it. `From` could stand only beside the job, in a crate that has no code.
 fn released(job: &Job) -> Released
     ensures { result ≡ Rattle.days.specs.Jobs.released job.now }
 {

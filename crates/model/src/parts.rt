@@ -61,3 +61,35 @@ impl<R: Arrivals, O: Order, S: Sections> Parts for Trio<R, O, S> {
         &self.sections
     }
 }
+
+// The same of parts that belong to others.
+#[derive_where(Clone, Copy)]
+pub struct LentTrio<'t, R, O, S> {
+    pub arrivals: &'t R,
+    pub order: &'t O,
+    pub sections: &'t S,
+}
+
+impl<'t, R: Arrivals, O: Order, S: Sections> Parts for LentTrio<'t, R, O, S> {
+    type Arrivals = R;
+
+    type Order = O;
+
+    type Sections = S;
+
+    ghost meaning = { λ t. record { arrivals = R.meaning t.arrivals.now; order = O.meaning t.order.now; sections = S.meaning t.sections.now } };
+
+    ghost lawful = { λ t. record { arrivals = R.lawful t.arrivals.now; order = O.lawful t.order.now; sections = S.lawful t.sections.now } };
+
+    fn arrivals(&self) -> &R {
+        self.arrivals
+    }
+
+    fn order(&self) -> &O {
+        self.order
+    }
+
+    fn sections(&self) -> &S {
+        self.sections
+    }
+}

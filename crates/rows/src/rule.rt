@@ -44,6 +44,7 @@ pub fn check<T, C: RowRule<T>>(rule: &C, part: Part, rows: &[T]) -> Result<(), F
     check_each(rule, part, rows)
 }
 
+// A loop, since no lemma says what `find_map` finds in a list.
 fn check_each<T, C: RowRule<T>>(rule: &C, part: Part, rows: &[T]) -> Result<(), Fault>
     requires { length rows.now ≤ 16 }
     ensures { result_err result ≡ rows_fault (C.RowRule.refuses rule.now) part 0 rows.now }
