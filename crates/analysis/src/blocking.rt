@@ -19,7 +19,7 @@ pub(crate) fn work<P: Parts>(parts: &P, task: u8, length: u32) -> u64
 pub(crate) fn blocked<P: Parts>(parts: &P, task: u8) -> u32
     ensures { result ≡ blocked (P.meaning parts.now) task }
 {
-    // a loop, as for the bound
+    // a loop, since the check does not follow what `max` finds over a range
     let mut most = 0u32;
     for lower in 0..parts.arrivals().tasks() {
         most = most.max(blocking(parts, task, lower));

@@ -29,7 +29,7 @@ pub(crate) fn bound<P: Parts>(parts: &P, task: u8, offsets: u32) -> u32
     ensures { result ≡ bound (P.meaning parts.now) task }
 {
     let blocking = blocked(parts, task);
-    // a loop: what `max` finds in a chain over a range is not followed by the check
+    // a loop, since the check does not follow what `max` finds over a range
     let mut most = 0u32;
     for offset in 0..offsets {
         most = most.max(response(parts, task, offset, blocking));

@@ -20,7 +20,7 @@ const ROW_WIDTH: usize = 9;
 #[derive(Clone, Copy)]
 pub struct Steps<'a> {
     numbers: &'a [u32],
-    // a repeat length of 0 would let jobs come without end
+    // no repeat length is 0, by which a count would divide
     ghost faultless: { IsNone (steps_fault numbers.now) },
 }
 

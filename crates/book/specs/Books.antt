@@ -27,10 +27,10 @@ module _ {P : Type 0} (meaning : P → Parts) where
   abbrev pub LedTo : List Event → Book P → Type 0
   LedTo day book = Led (verdict_of book.table) (meaning (parts_of book)) day (state_of book)
 
-  -- a call on the book before answered this and left the book later
+  -- a call on the book `before` answered `why` and left it as `later`
   abbrev pub CalledOn : Book P → Option Command → Option Fault → Book P → Type 0
   CalledOn before asked why later = Followed (verdict_of before.table) (meaning (parts_of before)) (state_of before) asked why (state_of later)
 
-  -- the book later comes of the one before by more calls
+  -- more calls lead from the book `before` to the book `later`
   abbrev pub ComesOf : Book P → Book P → Type 0
   ComesOf before later = GoesOn (verdict_of before.table) (meaning (parts_of before)) (state_of before) (state_of later)

@@ -1,4 +1,5 @@
-// Whether releases come closer together than their arrival curve allows.
+// Whether releases come closer together than their arrival curve allows. Three functions, since with a closure in a
+// closure neither answer is proved.
 ghost use Rattle.std.specs.Prelude.{◌≡◌};
 ghost use Rattle.jobs.specs.Crowds.{crowded_from, crowded_from_a_release, crowded_now};
 
@@ -21,8 +22,6 @@ fn is_crowded_from_a_release<P: Parts>(parts: &P, jobs: &[Job], task: u8, now: u
     jobs.iter().any(|job| job.task == task && is_crowded_from(parts, jobs, task, now, job.release))
 }
 
-// The three are apart, since a closure that calls a closure here leaves both their answers unproved.
-//
 // Whether with one more release now, more come from the tick to now than the arrival curve allows.
 fn is_crowded_from<P: Parts>(parts: &P, jobs: &[Job], task: u8, now: u32, tick: u32) -> bool
     ensures { result ≡ crowded_from (P.meaning parts.now) jobs.now task now tick }

@@ -14,7 +14,7 @@ pub neither : {X : Type 0} (first later : Option X) → (first or_else later) �
 neither None later e = (refl, e)
 neither (Some f) later e = (e, cc)
 
--- that there is none, as a ghost field can state it, and as the laws take it
+-- what a ghost field states (`IsNone`) is the equation that the laws take
 pub none_found : {X : Type 0} (found : Option X) → IsNone found → found ≡ None
 none_found None none = refl
 none_found (Some f) none = cc

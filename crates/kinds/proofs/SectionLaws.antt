@@ -8,7 +8,7 @@ use Rattle.model.specs.Sections.{LawfulSections, most_cost}
 use Rattle.model.specs.declared.fault.Part.TheVariants.{Sections}
 use Rattle.model.specs.declared.fault.Refusal.{Refusal}
 use Rattle.kinds.specs.Numbers.{used}
-use Rattle.kinds.specs.SectionKinds.{Shape, LawfulShape, shaped, sections_fault, open_shape, shut_shape, floating_shape, points_shape, largest, final, open_sections, shut_sections, floating_sections, points_sections, costs_fault, floating_refused, floating_fault, segments_refused, points_refused, points_fault}
+use Rattle.kinds.specs.SectionKinds.{Shape, LawfulShape, shaped, sections_fault, open_shape, shut_shape, floating_shape, points_shape, largest, final, floating_refused, segments_refused, points_refused}
 use Rattle.kinds.specs.declared.FloatingTask.{FloatingTask}
 use Rattle.kinds.proofs.RowLaws.{row_of, for_absent, making_accepted, inside, neither}
 
@@ -40,17 +40,9 @@ made_lawful shape refused lawful rows none = shaped_lawful shape rows (λ k row 
 pub open_shape_lawful : (cost : ℕ) → outside 1 most_cost cost ≡ None → LawfulShape (open_shape cost)
 open_shape_lawful cost none = let limits = inside 1 most_cost cost none in grind (arith, nat_tests)
 
--- Open sections keep the laws.
-pub open_lawful : (cs : List ℕ) → costs_fault cs ≡ None → LawfulSections (open_sections cs)
-open_lawful = made_lawful open_shape (outside 1 most_cost) open_shape_lawful
-
 -- a task that never opens, of a cost that is not refused
 pub shut_shape_lawful : (cost : ℕ) → outside 1 most_cost cost ≡ None → LawfulShape (shut_shape cost)
 shut_shape_lawful cost none = let limits = inside 1 most_cost cost none in grind (arith, nat_tests)
-
--- Shut sections keep the laws.
-pub shut_lawful : (cs : List ℕ) → costs_fault cs ≡ None → LawfulSections (shut_sections cs)
-shut_lawful = made_lawful shut_shape (outside 1 most_cost) shut_shape_lawful
 
 -- a task with floating sections that is not refused
 pub floating_shape_lawful : (task : FloatingTask) → floating_refused task ≡ None → LawfulShape (floating_shape task)
@@ -59,10 +51,6 @@ floating_shape_lawful task none =
     let cost-limits = inside 1 most_cost task.cost none-cost in
     let longest-limits = inside 1 task.cost task.longest none-longest in
     grind (arith, nat_tests)
-
--- Floating sections keep the laws.
-pub floating_lawful : (rows : List FloatingTask) → floating_fault rows ≡ None → LawfulSections (floating_sections rows)
-floating_lawful = made_lawful floating_shape floating_refused floating_shape_lawful
 
 -- a list's sum, by its first number
 sum_first : (x : ℕ) (xs : List ℕ) → sum (x ∷ xs) ≡ x + sum xs
@@ -126,7 +114,3 @@ points_shape_lawful row none =
     let (first, behind) = neither (outside 1 most_cost (get_or row 0 0)) _ none in
     let (_, in_all) = neither (segments_refused row) _ behind in
     used_lawful row (inside 1 most_cost (get_or row 0 0) first).0 (inside 1 most_cost (sum (used row)) in_all).1
-
--- Points keep the laws.
-pub points_lawful : (rows : List (List ℕ)) → points_fault rows ≡ None → LawfulSections (points_sections rows)
-points_lawful = made_lawful (λ row. points_shape (used row)) points_refused points_shape_lawful

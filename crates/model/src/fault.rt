@@ -54,7 +54,7 @@ pub struct Fault {
     pub task: u8,
 }
 
-// A refusal and a part have numbers and words of their own, so that one trait over both would say no more.
+// A refusal and a part have numbers and words of their own, so a trait over both would say no more.
 impl Refusal {
     pub fn number(self) -> u8
         ensures { result ≡ number self }

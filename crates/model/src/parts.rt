@@ -62,7 +62,7 @@ impl<R: Arrivals, O: Order, S: Sections> Parts for Trio<R, O, S> {
     }
 }
 
-// The same of parts that belong to others.
+// Three parts that belong to others, lent.
 #[derive_where(Clone, Copy)]
 pub struct LentTrio<'t, R, O, S> {
     pub arrivals: &'t R,

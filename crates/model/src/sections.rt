@@ -32,7 +32,7 @@ pub trait Sections {
     fn tail(&self, task: u8) -> u32
         ensures { result ≡ (meaning self.now).tail task };
 
-    // The three marks of a tick, after which the job has come so far.
+    // The three marks of a tick. `progress` is how far the job has come with it.
 
     // Whether the job may keep the processor after the tick.
     fn may_hold(&self, task: u8, progress: Progress) -> bool

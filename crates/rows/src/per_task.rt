@@ -7,7 +7,7 @@ ghost use Rattle.model.specs.Rows.{making_fault};
 use crate::rule::{MOST_TASKS, RowRule, check};
 use model::fault::{Fault, Part};
 
-// A vector of the kit with this capacity would have its rows have a default, and so ask more of a kind.
+// An array beside its length: the kit's `ArrayVec` would need a default row, and so ask more of a kind.
 #[derive(Drop)]
 pub struct PerTask<T> {
     rows: [T; MOST_TASKS],

@@ -9,8 +9,8 @@ use model::fault::{Fault, NO_TASK, Part, Refusal};
 // The most tasks of a table.
 pub const MOST_TASKS: usize = 16;
 
-// What a kind refuses about the row of one task. A closure in its place would have to be callable by a `requires`, and no
-// public function has one.
+// What a kind refuses about the row of one task. A function that takes a closure in its place would have to require that
+// it may be called, and no public function has a `requires`.
 pub trait RowRule<T> {
     ghost refuses: { Self → T → Option Refused };
 
