@@ -26,7 +26,7 @@ pub struct Separations {
 }
 
 impl Separations {
-    // One separation for each task.
+    // One separation for each task. (Two lines, as in the orders: one generic type would need more to tell them apart.)
     pub fn new(separations: &[u32]) -> Result<Separations, Fault>
         ensures { MakesUnlessFault result (separations_fault separations.now) (λ s. kept s.rows ≡ separations.now) }
     {

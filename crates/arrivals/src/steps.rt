@@ -74,7 +74,8 @@ impl RowRule<[u32; ROW_WIDTH]> for StepsRow {
     ghost refuses = { λ s row. steps_refused row };
 
     fn refused(&self, row: &[u32; ROW_WIDTH]) -> Option<Refusal> {
-        // by places, since a pattern of an array behind a reference gets no proof
+        // by places, since a pattern of an array behind a reference gets no proof; and no chain, since what is asked of the
+        // entries may be asked only behind the first test
         let repeat = row[0];
         if !(1..=MOST_SPACING).contains(&repeat) {
             Some(Refusal::Range)

@@ -23,7 +23,7 @@ pub struct EarliestDeadline {
 }
 
 impl EarliestDeadline {
-    // One relative deadline for each task.
+    // One relative deadline for each task. (Two lines, as in the other order: a generic type would be longer.)
     pub fn new(deadlines: &[u32]) -> Result<EarliestDeadline, Fault>
         ensures { MakesUnlessFault result (relative_deadlines_fault deadlines.now) (λ s. kept s.rows ≡ deadlines.now) }
     {

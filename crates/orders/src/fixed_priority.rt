@@ -28,7 +28,7 @@ pub struct FixedPriority {
 }
 
 impl FixedPriority {
-    // One urgency for each task.
+    // One urgency for each task. (Two lines, as in the other order: a generic type would be longer.)
     pub fn new(urgencies: &[u8]) -> Result<FixedPriority, Fault>
         ensures { MakesUnlessFault result (urgencies_fault urgencies.now) (λ s. kept s.rows ≡ urgencies.now) }
     {

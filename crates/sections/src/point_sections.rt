@@ -88,7 +88,7 @@ fn refused_behind(numbers: &[u32]) -> Option<Refusal>
     })
 }
 
-// The segments together are a cost.
+// The segments together are a cost. (Not by `COSTS`, whose numbers have 32 bits: the sum may have more.)
 fn refused_total(segments: Segments) -> Option<Refusal>
     ensures { result ≡ outside 1 most_cost (sum segments.entry.ticks.now) }
 {

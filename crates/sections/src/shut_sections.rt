@@ -14,6 +14,7 @@ use rows::rule::RowRule;
 // A part that is made of one cost for each task. It means `shut_sections`, and `costs_fault` says when it is not made.
 pub type ShutSections = ShapedSections<Shut>;
 
+// Three of its answers are those of `Open`: a line each, and no shorter shared.
 pub struct Shut;
 
 impl RowShape for Shut {
