@@ -3,7 +3,7 @@ ghost use Rattle.std.specs.Prelude.{◌≡◌, vec_len, slice_index};
 ghost use Rattle.analysis.specs.Judgement.{verdict_of, windows_of, bounds_of};
 
 use crate::draft::Draft;
-use crate::sheet::Sheet;
+pub use crate::sheet::Sheet;
 use model::fault::Fault;
 
 #[derive(Drop)]

@@ -1,8 +1,9 @@
 -- Entries in order, as a test of those before the first 0 and a test of those from it on.
-use Rattle.std.proofs.Common.{◌≡◌, ℕ, zero, suc, ◌+◌, ◌<◌, ◌≤◌, ◌==◌, Bool, true, false, ◌&&◌, nat_le, nat_eq, List, [], ◌∷◌, length, get_or, drop, refl, sym, arith}
+use Rattle.std.proofs.Common.{◌≡◌, ℕ, zero, suc, ◌+◌, ◌-◌, ◌<◌, ◌≤◌, ◌==◌, Bool, true, false, ◌&&◌, nat_le, nat_eq, List, [], ◌∷◌, length, get_or, drop, refl, sym, ◌∙◌, ⊎_elim, arith}
 use Rattle.std.specs.Bool.{MatchBool}
 use Rattle.std.specs.List.{list_all, starts_with}
 use Rattle.std.specs.List.Sorted.{IsNonDecreasing}
+use Rattle.std.proofs.lemmas.Bool.{cases_Bool}
 use Rattle.std.proofs.lemmas.Bool.Decides.{nat_tests}
 use Rattle.kinds.specs.ArrivalKinds.{blank, climbs, entries_in_order}
 use Rattle.kinds.specs.Numbers.{used}
@@ -48,8 +49,17 @@ in_order_apart repeat [] some = refl
 in_order_apart repeat (zero ∷ xs) some = refl
 in_order_apart repeat (suc x ∷ xs) some = let later = climbs_apart repeat (suc x) xs in grind (arith, nat_tests)
 
--- entries of which one before the first 0 is above the repeat length are not in order
-pub third_fails : (starts rises within blank : Bool) → within ≡ false → (starts && (rises && (within && blank))) ≡ false
-third_fails false rises within blank fails = refl
-third_fails true false within blank fails = refl
-third_fails true true within blank fails = rw fails
+-- of numbers that never fall, none is above a limit if the last is not
+pub last_tops : (repeat x : ℕ) (xs : List ℕ) → rising x xs ≡ true → nat_le (get_or (x ∷ xs) (length xs) 0) repeat ≡ list_all (λ t. nat_le t repeat) (x ∷ xs)
+last_tops repeat x [] rises = grind (arith, nat_tests)
+last_tops repeat x (y ∷ ys) rises = let first : nat_le x y ≡ true = grind (arith, nat_tests) in let later = last_tops repeat y ys (grind (arith, nat_tests)) in grind (arith, nat_tests)
+
+-- so the limit may be asked of the last alone
+tops : (repeat : ℕ) (ticks : List ℕ) (blank : Bool) → (starts_with nat_eq ticks (1 ∷ []) && (sorted ticks && (list_all (λ t. nat_le t repeat) ticks && blank))) ≡ (starts_with nat_eq ticks (1 ∷ []) && (sorted ticks && (nat_le (get_or ticks (length ticks - 1) 0) repeat && blank)))
+tops repeat [] blank = refl
+tops repeat (x ∷ xs) blank =
+    let place : length (x ∷ xs) - 1 ≡ length xs = omega arith in
+    ⊎_elim (λ rises. rw (place, last_tops repeat x xs rises) refl) (λ falls. rw falls refl) (cases_Bool (rising x xs))
+
+pub in_order_by_last : (repeat : ℕ) (xs : List ℕ) → 1 ≤ repeat → entries_in_order repeat xs ≡ (starts_with nat_eq (used xs) (1 ∷ []) && (sorted (used xs) && (nat_le (get_or (used xs) (length (used xs) - 1) 0) repeat && list_all (λ x. x == 0) (drop (length (used xs)) xs))))
+in_order_by_last repeat xs some = in_order_apart repeat xs some ∙ tops repeat (used xs) _

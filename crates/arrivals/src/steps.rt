@@ -93,9 +93,10 @@ fn in_order(repeat: u32, entries: &[u32]) -> bool
     ensures { result ≡ entries_in_order repeat entries.now }
 {
     let ticks = used(entries);
+    // of ticks that never fall the last is the greatest
     ticks.starts_with(&[1])
         && ticks.is_sorted()
-        && ticks.iter().all(|tick| *tick <= repeat)
+        && ticks[ticks.len() - 1] <= repeat
         && entries[ticks.len()..].iter().all(|entry| *entry == 0)
 }
 
@@ -124,5 +125,5 @@ fn releases(row: &[u32; ROW_WIDTH], ticks: u32) -> u64
 fn in_time(most: u32, entries: &[u32]) -> usize
     ensures { result ≡ at_most most entries.now }
 {
-    entries.iter().filter(|tick| **tick <= most).count()
+    entries.iter().map(|tick| usize::from(*tick <= most)).sum()
 }

@@ -1,5 +1,5 @@
 // A day book, and what is left of it when it is closed.
-use crate::totals::Totals;
+pub use crate::totals::Totals;
 use analysis::judged::Judged;
 use timeline::state::Timeline;
 

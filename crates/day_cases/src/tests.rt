@@ -4,6 +4,7 @@ mod last_tick;
 mod long_days;
 mod most_jobs;
 mod nine_bytes;
+mod own_condition;
 mod own_part;
 mod refusals;
 mod unfit;

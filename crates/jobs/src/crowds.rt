@@ -23,7 +23,7 @@ fn is_crowded_from_a_release<P: Parts>(parts: &P, jobs: &[Job], task: u8, now: u
 }
 
 // Whether with one more release now, more come from the tick to now than the arrival curve allows.
-fn is_crowded_from<P: Parts>(parts: &P, jobs: &[Job], task: u8, now: u32, tick: u32) -> bool
+pub fn is_crowded_from<P: Parts>(parts: &P, jobs: &[Job], task: u8, now: u32, tick: u32) -> bool
     ensures { result ≡ crowded_from (P.meaning parts.now) jobs.now task now tick }
 {
     // saturates at the longest length for which a count is asked

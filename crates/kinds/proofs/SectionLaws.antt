@@ -1,16 +1,17 @@
 -- The listed kinds of sections keep the laws of sections: it is enough that the shape of each task's row keeps them.
-use Rattle.std.proofs.Common.{◌≡◌, ℕ, zero, suc, ◌+◌, ◌≤◌, false, List, [], ◌∷◌, length, get_or, take, Some, None, sum, Option, arith}
+use Rattle.std.proofs.Common.{◌≡◌, ℕ, zero, suc, ◌+◌, ◌≤◌, false, List, [], ◌∷◌, length, get_or, take, Some, None, sum, Option, IsNone, arith}
 use Rattle.std.specs.List.{slice_get}
 use Rattle.std.proofs.lemmas.List.Sums.{sum_by-cons, sum_by-take-le}
 use Rattle.std.proofs.lemmas.Bool.Decides.{nat_tests}
 use Rattle.model.specs.Rows.{outside}
-use Rattle.model.specs.Sections.{LawfulSections, most_cost}
+use Rattle.model.specs.Sections.{SectionsMeaning, LawfulSections, most_cost}
+use Rattle.model.specs.declared.fault.Fault.{Fault}
 use Rattle.model.specs.declared.fault.Part.TheVariants.{Sections}
 use Rattle.model.specs.declared.fault.Refusal.{Refusal}
 use Rattle.kinds.specs.Numbers.{used}
 use Rattle.kinds.specs.SectionKinds.{Shape, LawfulShape, shaped, sections_fault, open_shape, shut_shape, floating_shape, points_shape, largest, final, floating_refused, segments_refused, points_refused}
 use Rattle.kinds.specs.declared.FloatingTask.{FloatingTask}
-use Rattle.kinds.proofs.RowLaws.{row_of, for_absent, making_accepted, inside, neither}
+use Rattle.kinds.proofs.RowLaws.{row_of, for_absent, making_accepted, none_found, inside, neither}
 
 -- Sections of lawful shapes keep the laws.
 pub shaped_lawful : {X : Type 0} (shape : X → Shape) (rows : List X) → ((k : ℕ) (row : X) → slice_get rows k ≡ Some row → LawfulShape (shape row)) → LawfulSections (shaped shape rows)
@@ -35,6 +36,11 @@ shaped_lawful shape rows lawful = record {
 -- Sections whose making refuses every row without a lawful shape keep the laws.
 pub made_lawful : {X : Type 0} (shape : X → Shape) (refused : X → Option Refusal) → ((row : X) → refused row ≡ None → LawfulShape (shape row)) → (rows : List X) → sections_fault refused rows ≡ None → LawfulSections (shaped shape rows)
 made_lawful shape refused lawful rows none = shaped_lawful shape rows (λ k row at. lawful row (making_accepted refused Sections rows none k row at))
+
+-- So does a part that means sections of these shapes, if its making found no fault.
+pub part_lawful : {X : Type 0} {shape : X → Shape} {refused : X → Option Refusal} (part : List X → SectionsMeaning) (fault : List X → Option Fault) → ((row : X) → refused row ≡ None → LawfulShape (shape row)) → ((rows : List X) → part rows ≡ shaped shape rows) → ((rows : List X) → fault rows ≡ sections_fault refused rows) → (rows : List X) → IsNone (fault rows) → LawfulSections (part rows)
+part_lawful {shape = shape} {refused = refused} part fault lawful shapes finds rows none =
+    rw (shapes rows) (made_lawful shape refused lawful rows (rw (← finds rows) (none_found (fault rows) none)))
 
 -- a task that opens at every tick, of a cost that is not refused
 pub open_shape_lawful : (cost : ℕ) → outside 1 most_cost cost ≡ None → LawfulShape (open_shape cost)

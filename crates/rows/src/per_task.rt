@@ -11,7 +11,8 @@ use model::fault::{Fault, Part};
 #[derive(Drop)]
 pub struct PerTask<T> {
     rows: [T; MOST_TASKS],
-    tasks: usize,
+    // a byte, as a task is: so the compiler sees that parts of as many tasks have the same rows, and tests it no more
+    tasks: u8,
     ghost few: { tasks ≤ 16 },
     ghost full: { length rows ≡ 16 },
 }
@@ -28,26 +29,32 @@ impl<T: Copy> PerTask<T> {
         let tasks = rows.len();
         let mut kept = [rows[0]; MOST_TASKS];
         kept[..tasks].copy_from_slice(rows);
-        Ok(PerTask { rows: kept, tasks })
+        Ok(PerTask {
+            rows: kept,
+            tasks: tasks as u8,
+        })
     }
 
     pub fn tasks(&self) -> u8
         ensures { result ≡ length (kept self.now) }
     {
-        self.tasks as u8
+        self.tasks
     }
 
     // The row of a task, if it has one.
     pub fn get(&self, task: u8) -> Option<T>
         ensures { result ≡ slice_get (kept self.now) task }
     {
-        self.rows[..self.tasks].get(usize::from(task)).copied()
+        self.rows[..usize::from(self.tasks)]
+            .get(usize::from(task))
+            .copied()
     }
 
     // The rows of two tasks, if both have one.
     pub fn both(&self, task: u8, other: u8) -> Option<(T, T)>
         ensures { result ≡ option_zip (slice_get (kept self.now) task) (slice_get (kept self.now) other) }
     {
-        self.get(task).zip(self.get(other))
+        let row = self.get(task)?;
+        Some((row, self.get(other)?))
     }
 }

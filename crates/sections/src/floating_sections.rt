@@ -1,5 +1,6 @@
 // Floating sections: a stretch that nothing interrupts may begin anywhere, and is at most so long.
-ghost use Rattle.kinds.specs.SectionKinds.{floating_shape, floating_refused};
+ghost use Rattle.std.specs.Prelude.{refl};
+ghost use Rattle.kinds.specs.SectionKinds.{floating_shape, floating_sections, floating_refused, floating_fault};
 ghost use Rattle.kinds.proofs.SectionLaws.{floating_shape_lawful};
 
 use crate::costs::COSTS;
@@ -23,7 +24,15 @@ impl RowShape for Floating {
 
     ghost shape = { floating_shape };
 
+    ghost part = { floating_sections };
+
+    ghost fault = { floating_fault };
+
     ghost lawful = { floating_shape_lawful };
+
+    ghost shapes = { λ rows. refl };
+
+    ghost finds = { λ rows. refl };
 
     // The cost between its limits, and the longest stretch at most the cost.
     fn refused(task: &FloatingTask) -> Option<Refusal> {

@@ -1,5 +1,6 @@
 // Open sections, fully preemptive: every tick may be the last of a stretch.
-ghost use Rattle.kinds.specs.SectionKinds.{open_shape};
+ghost use Rattle.std.specs.Prelude.{refl};
+ghost use Rattle.kinds.specs.SectionKinds.{open_shape, open_sections, costs_fault};
 ghost use Rattle.kinds.proofs.SectionLaws.{open_shape_lawful};
 ghost use Rattle.model.specs.Rows.{outside};
 ghost use Rattle.model.specs.Sections.{most_cost};
@@ -23,7 +24,15 @@ impl RowShape for Open {
 
     ghost shape = { open_shape };
 
+    ghost part = { open_sections };
+
+    ghost fault = { costs_fault };
+
     ghost lawful = { open_shape_lawful };
+
+    ghost shapes = { λ rows. refl };
+
+    ghost finds = { λ rows. refl };
 
     fn refused(cost: &u32) -> Option<Refusal> {
         COSTS.refused(cost)

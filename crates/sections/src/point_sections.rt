@@ -1,7 +1,7 @@
 // Point sections, preemption at fixed points: a job is the given segments one after the other, and opens between them.
-ghost use Rattle.std.specs.Prelude.{◌≡◌, sum};
+ghost use Rattle.std.specs.Prelude.{◌≡◌, sum, refl};
 ghost use Rattle.kinds.specs.Numbers.{used};
-ghost use Rattle.kinds.specs.SectionKinds.{points_shape, points_refused, segments_refused, number_behind};
+ghost use Rattle.kinds.specs.SectionKinds.{points_shape, points_sections, points_refused, points_fault, segments_refused, number_behind};
 ghost use Rattle.kinds.proofs.SectionLaws.{points_shape_lawful};
 ghost use Rattle.model.specs.Rows.{outside};
 ghost use Rattle.model.specs.Sections.{most_cost};
@@ -28,7 +28,15 @@ impl RowShape for Points {
 
     ghost shape = { λ row. points_shape (used row) };
 
+    ghost part = { points_sections };
+
+    ghost fault = { points_fault };
+
     ghost lawful = { points_shape_lawful };
+
+    ghost shapes = { λ rows. refl };
+
+    ghost finds = { λ rows. refl };
 
     // Segments with 0 behind the last, each between its limits, and their sum too.
     fn refused(row: &[u32; 8]) -> Option<Refusal> {

@@ -1,6 +1,8 @@
 // What the row of one task says of its jobs: the one thing in which the kinds of sections differ.
-ghost use Rattle.std.specs.Prelude.{◌≡◌, None, Option};
-ghost use Rattle.kinds.specs.SectionKinds.{Shape, LawfulShape};
+ghost use Rattle.std.specs.Prelude.{◌≡◌, List, None, Option};
+ghost use Rattle.kinds.specs.SectionKinds.{Shape, LawfulShape, shaped, sections_fault};
+ghost use Rattle.model.specs.Sections.{SectionsMeaning};
+ghost use Rattle.model.specs.declared.fault.Fault.{Fault as TheFault};
 ghost use Rattle.model.specs.declared.fault.Refusal.{Refusal as Refused};
 
 use model::fault::Refusal;
@@ -13,8 +15,17 @@ pub trait RowShape {
 
     ghost shape: { Self.Row → Shape };
 
+    // What the part means that is made of rows, and why none is made of them.
+    ghost part: { List Self.Row → SectionsMeaning };
+
+    ghost fault: { List Self.Row → Option TheFault };
+
     // What each `impl` must prove.
     ghost lawful: { (row : Self.Row) → refuses row ≡ None → LawfulShape (shape row) };
+
+    ghost shapes: { (rows : List Self.Row) → part rows ≡ shaped shape rows };
+
+    ghost finds: { (rows : List Self.Row) → fault rows ≡ sections_fault refuses rows };
 
     fn refused(row: &Self::Row) -> Option<Refusal>
         ensures { result ≡ refuses row.now };

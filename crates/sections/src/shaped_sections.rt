@@ -1,8 +1,6 @@
 // Sections that are given by a row for each task.
 ghost use Rattle.std.specs.Prelude.{◌≡◌, IsNone};
-ghost use Rattle.kinds.specs.SectionKinds.{shaped, sections_fault};
-ghost use Rattle.kinds.proofs.RowLaws.{none_found};
-ghost use Rattle.kinds.proofs.SectionLaws.{made_lawful};
+ghost use Rattle.kinds.proofs.SectionLaws.{part_lawful};
 ghost use Rattle.rows.specs.Kept.{kept};
 ghost use Rattle.rows.specs.Making.{MakesUnlessFault};
 
@@ -17,7 +15,7 @@ use std::marker::PhantomData;
 pub struct ShapedSections<K: RowShape> {
     rows: PerTask<K::Row>,
     // the laws hold of no other rows: a cost of 0 would leave no tick for the tail
-    ghost faultless: { IsNone (sections_fault K.refuses (kept rows)) },
+    ghost faultless: { IsNone (K.fault (kept rows)) },
 }
 
 // What a kind refuses about a row.
@@ -34,7 +32,7 @@ impl<K: RowShape> RowRule<K::Row> for KindRule<K> {
 impl<K: RowShape> ShapedSections<K> {
     // One row for each task.
     pub fn new(rows: &[K::Row]) -> Result<Self, Fault>
-        ensures { MakesUnlessFault result (sections_fault K.refuses rows.now) (λ s. kept s.rows ≡ rows.now) }
+        ensures { MakesUnlessFault result (K.fault rows.now) (λ s. kept s.rows ≡ rows.now) }
     {
         let rows = PerTask::checked(&KindRule::<K>(PhantomData), Part::Sections, rows)?;
         Ok(ShapedSections { rows })
@@ -42,9 +40,9 @@ impl<K: RowShape> ShapedSections<K> {
 }
 
 impl<K: RowShape> Sections for ShapedSections<K> {
-    ghost meaning = { λ s. shaped K.shape (kept s.rows) };
+    ghost meaning = { λ s. K.part (kept s.rows) };
 
-    ghost lawful = { λ s. made_lawful K.shape K.refuses K.lawful (kept s.rows) (none_found (sections_fault K.refuses (kept s.rows)) s.faultless) };
+    ghost lawful = { λ s. part_lawful K.part K.fault K.lawful K.shapes K.finds (kept s.rows) s.faultless };
 
     fn tasks(&self) -> u8 {
         self.rows.tasks()

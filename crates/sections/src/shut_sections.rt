@@ -1,5 +1,6 @@
 // Shut sections, not preemptive: a job runs from its start to its end.
-ghost use Rattle.kinds.specs.SectionKinds.{shut_shape};
+ghost use Rattle.std.specs.Prelude.{refl};
+ghost use Rattle.kinds.specs.SectionKinds.{shut_shape, shut_sections, costs_fault};
 ghost use Rattle.kinds.proofs.SectionLaws.{shut_shape_lawful};
 ghost use Rattle.model.specs.Rows.{outside};
 ghost use Rattle.model.specs.Sections.{most_cost};
@@ -24,7 +25,15 @@ impl RowShape for Shut {
 
     ghost shape = { shut_shape };
 
+    ghost part = { shut_sections };
+
+    ghost fault = { costs_fault };
+
     ghost lawful = { shut_shape_lawful };
+
+    ghost shapes = { λ rows. refl };
+
+    ghost finds = { λ rows. refl };
 
     fn refused(cost: &u32) -> Option<Refusal> {
         COSTS.refused(cost)

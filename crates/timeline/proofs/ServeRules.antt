@@ -36,15 +36,23 @@ three k false held false false = refl
 module _ (m : Parts) (s : State) (mark : Mark) (k : ℕ) where
   module _ (known : k < tasks m) (room : s.now < last_tick) where
     -- the task has no unfinished job
-    pub serve_absent : None ≡ position (pending k) s.jobs → Some (fault refusal.Absent Book k) ≡ refused m s (Serve mark k)
-    serve_absent none = rw (lt-leb (tasks m) k known, le-ltb last_tick (s.now + 1) (omega arith), none_placed (pending k) s.jobs (sym none))
+    pub serve_none : list_any (pending k) s.jobs ≡ false → refused m s (Serve mark k) ≡ Some (fault refusal.Absent Book k)
+    serve_none none = rw (lt-leb (tasks m) k known, le-ltb last_tick (s.now + 1) (omega arith), none)
 
-    -- its first unfinished job, which stands at n, may be served or not
+    -- and so none has a place
+    pub serve_absent : None ≡ position (pending k) s.jobs → Some (fault refusal.Absent Book k) ≡ refused m s (Serve mark k)
+    serve_absent none = sym (serve_none (none_placed (pending k) s.jobs (sym none)))
+
+    -- its first unfinished job may be served or not
+    pub serve_obstacle : (x : Job) → find (pending k) s.jobs ≡ Some x → refused m s (Serve mark k) ≡ about k (obstacle m s.jobs mark x)
+    serve_obstacle x found =
+        let member = first_in (pending k) s.jobs x found in
+        rw (lt-leb (tasks m) k known, le-ltb last_tick (s.now + 1) (omega arith), some_any (pending k) s.jobs x member.0 member.1, found) (three k (list_any held s.jobs) (held x) (list_any (more_urgent m x) s.jobs) (allowed m.sections mark x))
+
+    -- and so may the job that stands at its place
     pub serve_answer : (n : ℕ) (x : Job) → Some n ≡ position (pending k) s.jobs → x ≡ get_or s.jobs n x → about k (obstacle m s.jobs mark x) ≡ refused m s (Serve mark k)
     serve_answer n x place there =
-        let found : find (pending k) s.jobs ≡ Some x = (first_placed (pending k) x s.jobs n (sym place)).is_first ∙ ap Some (sym there) in
-        let member = first_in (pending k) s.jobs x found in
-        rw (lt-leb (tasks m) k known, le-ltb last_tick (s.now + 1) (omega arith), some_any (pending k) s.jobs x member.0 member.1, found) (sym (three k (list_any held s.jobs) (held x) (list_any (more_urgent m x) s.jobs) (allowed m.sections mark x)))
+        sym (serve_obstacle x ((first_placed (pending k) x s.jobs n (sym place)).is_first ∙ ap Some (sym there)))
 
   -- a service changes the job at n
   pub serve_changes : (n : ℕ) (x : Job) → Some n ≡ position (pending k) s.jobs → x ≡ get_or s.jobs n x → set s.jobs n (served mark (s.now + 1) x) ≡ (after s (Serve mark k)).jobs
