@@ -51,7 +51,7 @@ pub fn released_since(jobs: &[Job], task: u8, tick: u32) -> usize
     ensures few { result ≤ length jobs.now }
     ensures value { result ≡ releases task tick jobs.now }
 {
-    // a loop: a release asks it once for each job, and a chain took up to two thirds more time
+    // a loop: a release asks it once for each job of its task, and a chain took up to three quarters more time
     let mut number = 0;
     for job in jobs {
         if is_released_since(job, task, tick) {

@@ -11,7 +11,7 @@ use model::fault::{Fault, Part};
 #[derive(Drop)]
 pub struct PerTask<T> {
     rows: [T; MOST_TASKS],
-    // a byte, as a task is: so the compiler sees that parts of as many tasks have the same rows, and tests it no more
+    // a byte, as a task is: so the compiler sees that parts with as many tasks have rows for the same ones
     tasks: u8,
     ghost few: { tasks ≤ 16 },
     ghost full: { length rows ≡ 16 },
